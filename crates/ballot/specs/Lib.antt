@@ -1,0 +1,5 @@
+pub mod Refusals
+pub mod Sets
+pub mod Values
+pub mod Sources
+pub mod LentSound

@@ -1,0 +1,4 @@
+pub mod Languages
+pub mod Written
+pub mod Texts
+pub mod Decoded

@@ -1,0 +1,4 @@
+pub mod Bits
+pub mod Tallies
+pub mod Lists
+pub mod Laws

@@ -1,0 +1,4 @@
+pub mod Sets
+pub mod Ballots
+pub mod Orders
+pub mod Laws

@@ -1,0 +1,18 @@
+// What instant-runoff counting means. The definitions stand in specs/, and each function here says by
+// its contract which laws of them are proved.
+ghost use Rattle.irv.specs.Laws.{SetLaws, TallyLaws, OrderLaws};
+
+// A set of candidates is told by its members alone.
+pub fn sets_are_their_members()
+    ensures { λ _. ⌜ SetLaws ⌝ }
+{}
+
+// Who is out has no ballots, and nobody has more than all.
+pub fn tallies_stay_within_the_ballots()
+    ensures { λ _. ⌜ TallyLaws ⌝ }
+{}
+
+// An order holds as many candidates as stand, and at each step somebody else stands too.
+pub fn orders_hold_every_member_once()
+    ensures { λ _. ⌜ OrderLaws ⌝ }
+{}
