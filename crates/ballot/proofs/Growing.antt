@@ -2,20 +2,22 @@
 use mathlib.Core.Path.{_≡_, refl, sym, ap, subst, _∙_}
 use mathlib.Core.Bool.{Bool, true, false, not, _&&_, _||_, cond}
 use mathlib.Core.List.{List, [], _∷_, _++_}
-use mathlib.Core.Logic.{_⊎_, inl, inr}
 use Prim.Native.Nat.{ℕ, _+_, _≤_, _<_}
 use native.Mathlib.Omega.{arith}
 use lib.Dec.{eqb, leb, ltb}
 use lib.ListN.{length, getD, take, drop, take-append-drop}
 use Rattle.std.proofs.shelf.Lists.{at-drop-more, take-more, drop-more}
-use Rattle.std.proofs.shelf.Tests.{lt-ltb, leb-true, and-parts, and-right}
-use Rattle.std.specs.declared.option.Option.the-variants.{Some}
+use Rattle.std.proofs.shelf.Tests.{lt-ltb, leb-true, and-parts, and-right, both-ways}
+use Rattle.std.specs.Options.{isSome}
+use Rattle.std.specs.declared.option.Option.{Option}
+use Rattle.std.specs.declared.option.Option.the-variants.{None, Some}
 use Rattle.std.proofs.shelf.Ways.{tells}
 use Rattle.irv.specs.Sets.{Set, empty, has, with}
 use Rattle.irv.specs.Ballots.{Slate, member, mem, ranks, owner}
 use Rattle.irv.proofs.Bits.{none-in-empty, one-more}
 use Rattle.irv.proofs.Lists.{mem-push, ranks-push, not-ranked}
 use Rattle.ballot.specs.Sets.{in-range}
+use Rattle.ballot.specs.Values.{FirstUnfit}
 
 -- the candidates from 1 up to, but without, k
 abbrev pub UpTo : Set → ℕ → Type 0
@@ -48,11 +50,6 @@ pub ranked-none : (s : Slate) (seen : Set) → seen ≡ empty → Ranked s seen 
 ranked-none s seen e = record { ranking = refl; seen-all = λ c. ap (λ R. has R c) e ∙ none-in-empty c ∙ sym (and-right (ltb 0 c) false refl) }
 
 module _ (s : Slate) (few : s .candidates ≤ 16) (seen : Set) (xs : List ℕ) (i : ℕ) (within : i < length xs) (so-far : Ranked s seen (take i xs)) where
-  -- the candidate at place i is foreign or was seen
-  pub wrong-here : (member s (getD xs i 0) ≡ false) ⊎ (mem (getD xs i 0) (take i xs) ≡ true) → ranks s xs ≡ false
-  wrong-here fault =
-      subst (λ l. ranks s l ≡ false) (ap (λ l. take i xs ++ l) (sym (drop-more xs i 0 within)) ∙ take-append-drop i xs) (not-ranked s (take i xs) (getD xs i 0) (drop (i + 1) xs) fault)
-
   pub seen-before : has seen (getD xs i 0) ≡ true → mem (getD xs i 0) (take i xs) ≡ true
   seen-before h = and-parts (ltb 0 (getD xs i 0)) _ (sym (so-far .seen-all (getD xs i 0)) ∙ h) .1
 
@@ -73,3 +70,13 @@ module _ (s : Slate) (few : s .candidates ≤ 16) (seen : Set) (xs : List ℕ) (
       joined-test : (x c : ℕ) (m : Bool) → 1 ≤ x → ((ltb 0 x && eqb x c) || (ltb 0 c && m)) ≡ (ltb 0 c && (m || eqb x c))
       joined-test x c true h = grind (arith, tells)
       joined-test x c false h = grind (arith, tells)
+
+-- a list is a ranking exactly where no place is unfit
+pub unfit-somewhere : (s : Slate) (xs : List ℕ) (r : Option ℕ) → FirstUnfit s xs r → isSome r ≡ true → ranks s xs ≡ false
+unfit-somewhere s xs None told some = absurd (both-ways false refl some)
+unfit-somewhere s xs (Some i) told some =
+    subst (λ l. ranks s l ≡ false) (ap (λ l. take i xs ++ l) (sym (drop-more xs i 0 (told .0))) ∙ take-append-drop i xs) (not-ranked s (take i xs) (getD xs i 0) (drop (i + 1) xs) (told .1 .1))
+
+pub unfit-nowhere : (s : Slate) (xs : List ℕ) (r : Option ℕ) → FirstUnfit s xs r → isSome r ≡ false → ranks s xs ≡ true
+unfit-nowhere s xs None told none = told
+unfit-nowhere s xs (Some i) told none = absurd (both-ways true none refl)

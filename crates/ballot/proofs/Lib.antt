@@ -1,2 +1,3 @@
 pub mod Growing
 pub mod GroupLists
+pub mod Unique

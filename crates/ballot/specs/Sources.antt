@@ -17,6 +17,7 @@ pub record SoundSource (s : Slate) (gs : List BallotGroup) (place : ℕ) : Type 
   pub proper : Proper s
   pub fit : Fits s gs
   pub within : place ≤ length gs
+  deriving IsProp as sound-source-prop
 
 -- at the place stands the group that is handed out; at the end there is none
 abbrev pub HandsOut : Slate → List BallotGroup → ℕ → Option Group → ℕ → Type 0

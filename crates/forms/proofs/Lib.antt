@@ -1,4 +1,8 @@
 pub mod Bytes
+pub mod Digits
+pub mod Breaking
+pub mod RankingBreaks
+pub mod Lines
 pub mod Reading
 pub mod Fronts
 pub mod Rankings

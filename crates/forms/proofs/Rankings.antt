@@ -7,20 +7,9 @@ use Prim.Native.Nat.{ℕ}
 use lib.Dec.{eqb}
 use Rattle.std.proofs.shelf.Tests.{both-ways, eq-eqb, ne-eqb, or-left, or-right, or-from}
 use Rattle.irv.specs.Ballots.{Slate, member, mem, ranks}
-use Rattle.irv.proofs.Lists.{first-member, first-once, rest-ranks}
+use Rattle.irv.proofs.Lists.{ranked-within}
 use Rattle.forms.specs.Texts.{WrongAfter}
 use Rattle.forms.specs.Written.{Line}
-
-mem-middle : (c : ℕ) (xs ys : List ℕ) → mem c (xs ++ (c ∷ ys)) ≡ true
-mem-middle c [] ys = or-left (eqb c c) (mem c ys) (eq-eqb c c refl)
-mem-middle c (x ∷ xs) ys = or-right (eqb x c) (mem c (xs ++ (c ∷ ys))) (mem-middle c xs ys)
-
--- a number within a ranking is a member, and none of those before it
-pub ranked-within : (s : Slate) (ok : List ℕ) (c : ℕ) (later : List ℕ) → ranks s (ok ++ (c ∷ later)) ≡ true → (member s c ≡ true) × (mem c ok ≡ false)
-ranked-within s [] c later h = (first-member s c later h, refl)
-ranked-within s (x ∷ ok) c later h =
-    let rest = ranked-within s ok c later (rest-ranks s x (ok ++ (c ∷ later)) h) in
-    (rest .0, or-from (eqb x c) (mem c ok) (ne-eqb x c (λ same. both-ways (mem x (ok ++ (c ∷ later))) (first-once s x (ok ++ (c ∷ later)) h) (subst (λ y. mem y (ok ++ (c ∷ later)) ≡ true) (sym same) (mem-middle c ok later)))) (rest .1))
 
 pub not-wrong : (s : Slate) (ok : List ℕ) (c : ℕ) (later : List ℕ) → ranks s (ok ++ (c ∷ later)) ≡ true → (member s c ≡ false) ⊎ (mem c ok ≡ true) → ⊥
 not-wrong s ok c later h fault =

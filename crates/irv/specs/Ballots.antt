@@ -36,6 +36,7 @@ ranks s (c ∷ cs) = member s c && (not (mem c cs) && ranks s cs)
 pub record BallotGroup : Type 0 where
   pub ranking : List ℕ
   pub count : ℕ
+  deriving IsSet as ballot-group-set
 
 abbrev pub fits-group : Slate → BallotGroup → Bool
 fits-group s g = ranks s (g .ranking) && leb 1 (g .count)
@@ -54,6 +55,7 @@ most-ballots = 100000000
 pub record Fits (s : Slate) (gs : List BallotGroup) : Type 0 where
   pub groups : all-fit s gs ≡ true
   pub sum : ballots gs ≤ most-ballots
+  deriving IsProp as fits-prop
 
 -- what counts of a group's ranking in a contest
 abbrev pub reading : Slate → BallotGroup → List ℕ

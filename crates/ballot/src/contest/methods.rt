@@ -5,7 +5,7 @@ ghost use Rattle.std.specs.Results.{Cases};
 ghost use Rattle.irv.specs.Ballots.{slate, member, Proper};
 ghost use Rattle.irv.specs.Sets.{has};
 ghost use Rattle.ballot.specs.Sets.{members};
-ghost use Rattle.ballot.specs.Values.{contest-slate};
+ghost use Rattle.ballot.specs.Values.{contest-slate, FirstUnfit};
 ghost use Rattle.ballot.specs.declared.refusal.Refusal.the-variants.{CandidatesOutOfRange};
 use crate::candidate_set::CandidateSet;
 use crate::contest::Contest;
@@ -47,5 +47,22 @@ impl Contest {
             all.insert(candidate);
         }
         all
+    }
+
+    // The place of the first number that makes no ranking of the list: a foreign candidate, or one that came before.
+    pub fn first_unfit(&self, candidates: &[u32]) -> Option<usize>
+        ensures { λ r. ⌜ FirstUnfit (contest-slate (now (self .entry))) (now (candidates .entry)) r ⌝ }
+    {
+        let mut seen = CandidateSet::new();
+        for (i, candidate) in candidates.iter().enumerate() {
+            if !self.is_candidate(*candidate) {
+                return Some(i);
+            }
+            if seen.has(*candidate) {
+                return Some(i);
+            }
+            seen.insert(*candidate);
+        }
+        None
     }
 }

@@ -17,19 +17,11 @@ impl Ranking {
     pub fn new(contest: Contest, candidates: &[u32]) -> Result<Ranking, Refusal>
         ensures { λ r. ⌜ Cases r (λ k. (ranks (contest-slate contest) (now (candidates .entry)) ≡ true) × ((ranked k ≡ now (candidates .entry)) × (ranking-slate k ≡ contest-slate contest))) (λ e. (ranks (contest-slate contest) (now (candidates .entry)) ≡ false) × (e ≡ CandidateForeignOrRepeated)) ⌝ }
     {
-        let mut seen = CandidateSet::new();
-        let mut places = [0; 16];
-        if candidates.len() > 16 {
+        if contest.first_unfit(candidates).is_some() {
             return Err(Refusal::CandidateForeignOrRepeated);
         }
+        let mut places = [0; 16];
         for (i, candidate) in candidates.iter().enumerate() {
-            if !contest.is_candidate(*candidate) {
-                return Err(Refusal::CandidateForeignOrRepeated);
-            }
-            if seen.has(*candidate) {
-                return Err(Refusal::CandidateForeignOrRepeated);
-            }
-            seen.insert(*candidate);
             places[i] = *candidate;
         }
         Ok(Ranking {

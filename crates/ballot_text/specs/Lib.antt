@@ -1,0 +1,3 @@
+pub mod Tokens
+pub mod Rows
+pub mod Lines
