@@ -1,3 +1,9 @@
 pub mod Tokens
 pub mod Rows
 pub mod Lines
+pub mod Faults
+pub mod Readings
+pub mod Openings
+pub mod Sources
+pub mod Texts
+pub mod Sound

@@ -11,7 +11,7 @@ use Rattle.std.proofs.shelf.Tests.{and-parts, leb-true}
 use Rattle.std.specs.Iters.{folded}
 use Rattle.std.specs.shelf.Lists.{All}
 use Rattle.irv.specs.Ballots.{Slate, ranks, BallotGroup, fits-group, all-fit, Fits, ballots, most-ballots}
-use Rattle.forms.specs.Texts.{Cause, ill-formed, bad-count, bad-candidate, Front, Counts, WrongAfter, byte-after, Refused, OneOutcome}
+use Rattle.forms.specs.Texts.{Cause, ill-formed, bad-count, bad-candidate, Front, Counts, WrongAfter, byte-after, Refused, Good, OneOutcome}
 use Rattle.forms.specs.Written.{Form, Line, WellFormed, LineOf, line-bytes, text-of, group-of}
 use Rattle.forms.proofs.Reading.{one-line, some-bytes}
 use Rattle.forms.proofs.Fronts.{no-break, one-break}
@@ -27,12 +27,6 @@ one-text f (l ∷ ls) (m ∷ ms) p q e =
     let first : l ≡ m = front .0 in
     let later : ls ≡ ms = one-text f ls ms (p .1) (q .1) (front .1) in
     cc
-
--- a line that no cause refuses, with sum ballots before it
-pub record Good (f : Form) (s : Slate) (sum : ℕ) (l : Line) : Type 0 where
-  pub formed : WellFormed f l
-  pub counts : Counts sum l
-  pub right : ranks s (l .numbers) ≡ true
 
 -- each line is good with sum ballots before the first
 abbrev pub Goods : Form → Slate → ℕ → List Line → Type 0

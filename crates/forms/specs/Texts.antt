@@ -52,6 +52,12 @@ Refused f s sum rest ill-formed byte = (i : ℕ) × (0 < length rest) × Breaks 
 Refused f s sum rest bad-count byte = (l : Line) × Front f rest l × (Counts sum l → ⊥) × (byte ≡ 1)
 Refused f s sum rest bad-candidate byte = (l : Line) × (ok : List ℕ) × Front f rest l × Counts sum l × WrongAfter s l ok × (byte ≡ byte-after l ok)
 
+-- a line that no cause refuses, with sum ballots before it
+pub record Good (f : Form) (s : Slate) (sum : ℕ) (l : Line) : Type 0 where
+  pub formed : WellFormed f l
+  pub counts : Counts sum l
+  pub right : ranks s (l .numbers) ≡ true
+
 -- the first faulty line of a text, from 1, with its cause and byte
 pub record Faulty (f : Form) (s : Slate) (bs : List ℕ) (cause : Cause) (line byte : ℕ) : Type 0 where
   pub before : List Line

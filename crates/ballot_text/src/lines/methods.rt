@@ -1,0 +1,114 @@
+// Opening the lines of a text, and handing out their groups.
+ghost use denote.Ref.{now};
+ghost use mathlib.Core.Path.{_≡_};
+ghost use Rattle.std.specs.Results.{Cases};
+ghost use Rattle.ballot.specs.Values.{contest-slate};
+ghost use Rattle.ballot_text.specs.Lines.{form-of};
+ghost use Rattle.ballot_text.specs.Openings.{ReadsAll, FaultyText, OpeningRefused};
+ghost use Rattle.ballot_text.specs.Sources.{line-groups, lines-sound, OpenedLines};
+ghost use Rattle.ballot_text.specs.Texts.{text-bytes};
+use crate::fault::Fault;
+use crate::field::TextForm;
+use crate::judge::take_group;
+use crate::lines::BallotLines;
+use crate::text::BallotText;
+use ballot::contest::Contest;
+use ballot::group::Group;
+use ballot::refusal::Refusal;
+use ballot::source::BallotSource;
+
+// How many ballots the lines of the text have together, or the first faulty line.
+fn read_all(form: TextForm, contest: Contest, text: &[u8]) -> Result<u32, Fault>
+    ensures { λ r. ⌜ Cases r (λ sum. ReadsAll (form-of form) (contest-slate contest) (now (text .entry)) sum) (λ e. FaultyText (form-of form) (contest-slate contest) (now (text .entry)) e) ⌝ }
+{
+    let mut sum = 0;
+    let mut line = 1;
+    let mut at = 0;
+    while at < text.len() {
+        match take_group(form, contest, sum, &text[at..]) {
+            Ok(read) => {
+                sum += read.group.count();
+                line += 1;
+                at += read.length;
+            }
+            Err(fault) => {
+                return Err(Fault {
+                    cause: fault.cause,
+                    line,
+                    byte: fault.byte,
+                });
+            }
+        }
+    }
+    Ok(sum)
+}
+
+impl<'a, 't> BallotLines<'a, 't> {
+    // The text as a source for a contest of so many candidates, its place at the start.
+    pub fn open(
+        form: TextForm,
+        candidates: u32,
+        text: &'a BallotText<'t>,
+    ) -> Result<BallotLines<'a, 't>, Fault>
+        ensures { λ r. ⌜ Cases r (λ s. OpenedLines form candidates (text-bytes (now (text .entry))) s) (λ e. OpeningRefused (form-of form) candidates (text-bytes (now (text .entry))) e) ⌝ }
+    {
+        let contest = match Contest::new(candidates) {
+            Ok(contest) => contest,
+            Err(cause) => {
+                return Err(Fault {
+                    cause,
+                    line: 0,
+                    byte: 0,
+                });
+            }
+        };
+        let ballots = read_all(form, contest, text.bytes())?;
+        Ok(BallotLines {
+            form,
+            contest,
+            text,
+            ballots,
+            at: 0,
+            place: 0,
+        })
+    }
+}
+
+pub impl<'a, 't> BallotSource for BallotLines<'a, 't> as BallotLinesSource {
+    ghost contest = { λ s. contest-slate (s .contest) };
+
+    ghost groups = { λ s. line-groups s };
+
+    ghost place = { λ s. s .place };
+
+    ghost sound = { λ s. lines-sound s };
+
+    fn candidates(&self) -> u32 {
+        self.contest.candidates()
+    }
+
+    fn ballots(&self) -> u32 {
+        self.ballots
+    }
+
+    fn rewind(&mut self) {
+        self.at = 0;
+        self.place = 0;
+    }
+
+    fn next(&mut self) -> Option<Group> {
+        let at = self.at;
+        let text = self.text.bytes();
+        if at >= text.len() {
+            return None;
+        }
+        match take_group(self.form, self.contest, 0, &text[at..]) {
+            Ok(read) => {
+                self.at = at + read.length;
+                self.place += 1;
+                Some(read.group)
+            }
+            Err(_) => unreachable(),
+        }
+    }
+}
