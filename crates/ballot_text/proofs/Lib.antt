@@ -5,3 +5,4 @@ pub mod Widths
 pub mod Judging
 pub mod Opening
 pub mod Placing
+pub mod Walking

@@ -54,7 +54,7 @@ all-fit-push s (x ∷ gs) g h is =
 good-fits : (f : Form) (s : Slate) (sum : ℕ) (l : Line) → Good f s sum l → fits-group s (group-of l) ≡ true
 good-fits f s sum l good = and-from _ (leb 1 (l .count)) (good .right) (le-leb 1 (l .count) (good .counts .0))
 
-some-line-bytes : (l : Line) → 1 ≤ length (line-bytes l)
+pub some-line-bytes : (l : Line) → 1 ≤ length (line-bytes l)
 some-line-bytes l = omega (arith, length-append (l .head) (semicolon ∷ (written-ranking (l .numbers) ++ (newline ∷ []))))
 
 -- there are at most as many lines as bytes

@@ -28,7 +28,7 @@ use Rattle.ballot_text.proofs.Opening.{lines-le}
 pub at-start : (f : Form) (n : ℕ) (bs : List ℕ) (sum : ℕ) → ReadsAll f (slate n) bs sum → Reading f n bs sum 0 0
 at-start f n bs sum all = record { lines = all .lines; holds = all .holds; sum-is = all .sum-is; within = omega arith; at-is = refl }
 
-text-append : (ls ms : List Line) → text-of (ls ++ ms) ≡ text-of ls ++ text-of ms
+pub text-append : (ls ms : List Line) → text-of (ls ++ ms) ≡ text-of ls ++ text-of ms
 text-append [] ms = refl
 text-append (l ∷ ls) ms = ap (λ x. line-bytes l ++ x) (text-append ls ms) ∙ sym (append-assoc (line-bytes l) (text-of ls) (text-of ms))
 
@@ -38,22 +38,22 @@ left-text bs ls place at whole at-is =
     ap (drop at) (whole ∙ ap text-of (sym (take-append-drop place ls)) ∙ text-append (take place ls) (drop place ls)) ∙ drop-at (text-of (take place ls)) (text-of (drop place ls)) at (sym at-is)
 
 -- a line in front of those that are left, and what is left behind it
-record Next (ls : List Line) (place : ℕ) : Type 0 where
-  line : Line
-  later : List Line
-  split : drop place ls ≡ line ∷ later
-  inside : place < length ls
-  passed : take (place + 1) ls ≡ take place ls ++ (line ∷ [])
-  behind : drop (place + 1) ls ≡ later
+pub record Next (ls : List Line) (place : ℕ) : Type 0 where
+  pub line : Line
+  pub later : List Line
+  pub split : drop place ls ≡ line ∷ later
+  pub inside : place < length ls
+  pub passed : take (place + 1) ls ≡ take place ls ++ (line ∷ [])
+  pub behind : drop (place + 1) ls ≡ later
 
-next-line : (ls : List Line) (place : ℕ) (l : Line) (later : List Line) → drop place ls ≡ l ∷ later → Next ls place
+pub next-line : (ls : List Line) (place : ℕ) (l : Line) (later : List Line) → drop place ls ≡ l ∷ later → Next ls place
 next-line ls place l later split =
     let inside : place < length ls = omega (arith, ap length split, length-drop place ls) in
     let two : getD ls place l ∷ drop (place + 1) ls ≡ l ∷ later = sym (drop-more ls place l inside) ∙ split in
     let first : getD ls place l ≡ l = cc in
     record { line = l; later = later; split = split; inside = inside; passed = take-more ls place l inside ∙ ap (λ x. take place ls ++ (x ∷ [])) first; behind = cc }
 
-good-at : (f : Form) (s : Slate) (sum : ℕ) (ls : List Line) (place : ℕ) (l : Line) (later : List Line) → Goods f s sum ls → drop place ls ≡ l ∷ later → Good f s 0 l
+pub good-at : (f : Form) (s : Slate) (sum : ℕ) (ls : List Line) (place : ℕ) (l : Line) (later : List Line) → Goods f s sum ls → drop place ls ≡ l ∷ later → Good f s 0 l
 good-at f s sum [] zero l later goods e = absurd (omega (arith, ap length e))
 good-at f s sum [] (suc place) l later goods e = absurd (omega (arith, ap length e))
 good-at f s sum (m ∷ ls) zero l later goods e =

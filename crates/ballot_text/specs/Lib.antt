@@ -7,3 +7,5 @@ pub mod Openings
 pub mod Sources
 pub mod Texts
 pub mod Sound
+pub mod Forms
+pub mod Fields

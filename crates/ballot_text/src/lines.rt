@@ -7,6 +7,7 @@ use crate::field::TextForm;
 use crate::text::BallotText;
 use ballot::contest::Contest;
 
+pub mod fields;
 pub mod methods;
 
 // `ballots` is how many ballots the lines have together; `place` counts the lines that were handed out, and the

@@ -2,10 +2,12 @@
 ghost use denote.Ref.{now};
 ghost use mathlib.Core.Path.{_≡_};
 ghost use Rattle.std.specs.Results.{Cases};
+ghost use Rattle.irv.specs.Ballots.{slate, ballots};
+ghost use Rattle.ballot.specs.Sources.{HandsOut};
 ghost use Rattle.ballot.specs.Values.{contest-slate};
 ghost use Rattle.ballot_text.specs.Lines.{form-of};
 ghost use Rattle.ballot_text.specs.Openings.{ReadsAll, FaultyText, OpeningRefused};
-ghost use Rattle.ballot_text.specs.Sources.{line-groups, lines-sound, OpenedLines};
+ghost use Rattle.ballot_text.specs.Sources.{line-groups, OpenedLines, SameText};
 ghost use Rattle.ballot_text.specs.Texts.{text-bytes};
 use crate::fault::Fault;
 use crate::field::TextForm;
@@ -14,8 +16,6 @@ use crate::lines::BallotLines;
 use crate::text::BallotText;
 use ballot::contest::Contest;
 use ballot::group::Group;
-use ballot::refusal::Refusal;
-use ballot::source::BallotSource;
 
 // How many ballots the lines of the text have together, or the first faulty line.
 fn read_all(form: TextForm, contest: Contest, text: &[u8]) -> Result<u32, Fault>
@@ -72,31 +72,34 @@ impl<'a, 't> BallotLines<'a, 't> {
             place: 0,
         })
     }
-}
 
-pub impl<'a, 't> BallotSource for BallotLines<'a, 't> as BallotLinesSource {
-    ghost contest = { λ s. contest-slate (s .contest) };
-
-    ghost groups = { λ s. line-groups s };
-
-    ghost place = { λ s. s .place };
-
-    ghost sound = { λ s. lines-sound s };
-
-    fn candidates(&self) -> u32 {
+    pub fn candidates(&self) -> u32
+        ensures { λ r. ⌜ slate r ≡ contest-slate (now (self .entry) .contest) ⌝ }
+    {
         self.contest.candidates()
     }
 
-    fn ballots(&self) -> u32 {
+    // How many ballots there are in all lines.
+    pub fn ballots(&self) -> u32
+        ensures { λ r. ⌜ r ≡ ballots (line-groups (now (self .entry))) ⌝ }
+    {
         self.ballots
     }
 
-    fn rewind(&mut self) {
+    // Puts the place at the first line.
+    pub fn rewind(&mut self)
+        ensures same { λ _. ⌜ SameText (now (self .entry)) (now (self .exit)) ⌝ }
+        ensures start { λ _. ⌜ now (self .exit) .place ≡ 0 ⌝ }
+    {
         self.at = 0;
         self.place = 0;
     }
 
-    fn next(&mut self) -> Option<Group> {
+    // The group of the line at the place, which moves on by one; at the end nothing, and the place stays.
+    pub fn next(&mut self) -> Option<Group>
+        ensures same { λ _. ⌜ SameText (now (self .entry)) (now (self .exit)) ⌝ }
+        ensures cases { λ r. ⌜ HandsOut (contest-slate (now (self .entry) .contest)) (line-groups (now (self .entry))) (now (self .entry) .place) r (now (self .exit) .place) ⌝ }
+    {
         let at = self.at;
         let text = self.text.bytes();
         if at >= text.len() {

@@ -1,7 +1,7 @@
 use Rattle.ballot_text.specs.Lines.{form-of}
 use Rattle.ballot_text.specs.Sound.{reading-sum}
 use Rattle.ballot_text.specs.Texts.{text-bytes}
-use Rattle.ballot_text.proofs.lines.methods.BallotLinesSource.ballots.Needs as need
+use Rattle.ballot_text.proofs.lines.BallotLines.ballots.Needs as need
 
 pub returns : need.returns
 returns c =

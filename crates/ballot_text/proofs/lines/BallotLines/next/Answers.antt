@@ -8,15 +8,14 @@ use Rattle.ballot_text.specs.Faults.{TakesGroup, FaultyLine}
 use Rattle.ballot_text.specs.Lines.{form-of}
 use Rattle.ballot_text.specs.Texts.{text-bytes}
 use Rattle.ballot_text.proofs.Placing.{all-out, never-faulty, next-out, next-reading, next-within, place-bound}
-use Rattle.ballot_text.proofs.lines.methods.BallotLinesSource.next.Needs as need
-use Rattle.ballot_text.proofs.lines.methods.BallotLinesSource.next.Needs.{In-Ok}
+use Rattle.ballot_text.proofs.lines.BallotLines.next.Needs as need
+use Rattle.ballot_text.proofs.lines.BallotLines.next.Needs.{In-Ok}
 
 pub returns-then-at-text : need.returns-then-at-text
 returns-then-at-text c =
     let s = c .args .self .now in
     record {
-      same-contest = refl;
-      same-groups = refl;
+      same = record { form = refl; contest = refl; bytes = refl };
       cases = (all-out (form-of (s .form)) (s .contest .candidates) (text-bytes (s .text .now)) (s .ballots) (s .at) (s .place) (s .reading) (omega (arith, ap length (c .bytes-text .ensures), c .if-at-text .taken)), refl);
     }
 
@@ -60,8 +59,7 @@ returns c =
     let s = c .args .self .now in
     let k = need.at·returns c .In-Ok in
     record {
-      same-contest = refl;
-      same-groups = refl;
+      same = record { form = refl; contest = refl; bytes = refl };
       cases =
           (next-out (form-of (s .form)) (s .contest .candidates) (text-bytes (s .text .now)) (s .ballots) (s .at) (s .place) (s .reading) (inside k) (c .in-Ok .read) (taken k), (taken k .contest, refl));
     }

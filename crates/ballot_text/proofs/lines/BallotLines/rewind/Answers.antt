@@ -1,7 +1,7 @@
 use Rattle.ballot_text.specs.Lines.{form-of}
 use Rattle.ballot_text.specs.Texts.{text-bytes}
 use Rattle.ballot_text.proofs.Placing.{again-at-start}
-use Rattle.ballot_text.proofs.lines.methods.BallotLinesSource.rewind.Needs as need
+use Rattle.ballot_text.proofs.lines.BallotLines.rewind.Needs as need
 
 pub ghost-self : need.ghost-self
 ghost-self c =
