@@ -60,9 +60,10 @@ module _ (f : Form) (s : Slate) (bs : List ℕ) (passed at : ℕ) (walked : Pass
       same-here = one-line f (line-of r) (line-here .line) (drop (r .length) (drop at bs)) (text-of (line-here .later)) (read .formed) formed-here (sym (read .split) ∙ front-here) .0
 
       passed-here : (passed + 1 ≤ length ls) × (at + r .length ≡ length (text-of (take (passed + 1) ls)))
-      passed-here =
-          (omega (arith, line-here .inside),
-           omega (arith, walked ls holds .1, read .long, ap (λ l. length (line-bytes l)) same-here, ap (λ l. length (text-of l)) (line-here .passed), ap length (text-append (take passed ls) (line-here .line ∷ [])), length-append (text-of (take passed ls)) (text-of (line-here .line ∷ [])), length-append (line-bytes (line-here .line)) []))
+      passed-here = (
+        omega (arith, line-here .inside),
+        omega (arith, walked ls holds .1, read .long, ap (λ l. length (line-bytes l)) same-here, ap (λ l. length (text-of l)) (line-here .passed), ap length (text-append (take passed ls) (line-here .line ∷ [])), length-append (text-of (take passed ls)) (text-of (line-here .line ∷ [])), length-append (line-bytes (line-here .line)) []),
+      )
 
       fields-here : (number : ℕ) → passed + 1 ≡ number → FieldsAmong f ls number (record { first = r .first; second = r .second; at = at })
       fields-here number is =

@@ -35,3 +35,15 @@ FieldsOfLine s number x = (ls : List Line) → HasLines s ls → FieldsAmong (fo
 -- the number is 0, or there are fewer lines
 abbrev pub NoSuchLine : BallotLines → ℕ → Refusal → Type 0
 NoSuchLine s number e = ((ls : List Line) → HasLines s ls → 1 ≤ number → length ls < number) × (e ≡ PlaceOutOfRange)
+
+-- the part is the written identifier of the row with this number, from 1, and begins at this byte of the text, from 0
+pub record IdentifierAmong (ls : List Line) (number : ℕ) (part : List ℕ) (at : ℕ) : Type 0 where
+  pub line : Line
+  pub later : List Line
+  pub some : 1 ≤ number
+  pub stands : drop (number - 1) ls ≡ line ∷ later
+  pub part-is : part ≡ line .head
+  pub at-is : at ≡ length (text-of (take (number - 1) ls))
+
+abbrev pub IdentifierOfRow : BallotLines → ℕ → List ℕ → ℕ → Type 0
+IdentifierOfRow s number part at = (ls : List Line) → HasLines s ls → IdentifierAmong ls number part at

@@ -19,6 +19,7 @@ pub use judge::GroupRead;
 pub use judge::LineFault;
 pub use line::LineRead;
 pub use line::read_line;
+pub use lines::fields::LineFields;
 pub use rows_text::RowsText;
 pub use rows_text::methods::RowsTextSource;
 pub use text::BallotText;

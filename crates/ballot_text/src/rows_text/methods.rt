@@ -4,16 +4,19 @@ ghost use mathlib.Core.Path.{_≡_};
 ghost use Rattle.std.specs.Results.{Cases};
 ghost use Rattle.ballot.specs.Values.{contest-slate};
 ghost use Rattle.forms.specs.Written.{row-lines};
+ghost use Rattle.ballot_text.specs.Fields.{FieldsOfLine, IdentifierOfRow, NoSuchLine};
 ghost use Rattle.ballot_text.specs.Openings.{OpeningRefused};
 ghost use Rattle.ballot_text.specs.Sources.{line-groups, lines-sound, OpenedText};
 ghost use Rattle.ballot_text.specs.Texts.{text-bytes};
-use ballot::group::Group;
-use ballot::source::BallotSource;
 use crate::fault::Fault;
 use crate::field::TextForm;
 use crate::lines::BallotLines;
+use crate::lines::fields::LineFields;
 use crate::rows_text::RowsText;
 use crate::text::BallotText;
+use ballot::group::Group;
+use ballot::refusal::Refusal;
+use ballot::source::BallotSource;
 
 impl<'a, 't> RowsText<'a, 't> {
     // The text as a source for a contest of so many candidates, its place at the start; or why it is refused:
@@ -25,6 +28,21 @@ impl<'a, 't> RowsText<'a, 't> {
             Ok(lines) => Ok(RowsText { lines }),
             Err(fault) => Err(fault),
         }
+    }
+
+    // The fields of a line, from 1.
+    pub fn fields(&self, line: u64) -> Result<LineFields<'t>, Refusal>
+        ensures { λ r. ⌜ Cases r (λ x. FieldsOfLine (now (self .entry) .lines) line x) (λ e. NoSuchLine (now (self .entry) .lines) line e) ⌝ }
+    {
+        self.lines.fields(line)
+    }
+
+    // The identifier of a row, from 1, and the byte of the text, from 0, where it begins.
+    pub fn identifier(&self, row: u64) -> Result<(&'t [u8], usize), Refusal>
+        ensures { λ r. ⌜ Cases r (λ x. IdentifierOfRow (now (self .entry) .lines) row (now (x .0)) (x .1)) (λ e. NoSuchLine (now (self .entry) .lines) row e) ⌝ }
+    {
+        let fields = self.lines.fields(row)?;
+        Ok((fields.first.bytes(), fields.at))
     }
 }
 

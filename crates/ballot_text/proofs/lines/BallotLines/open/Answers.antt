@@ -20,14 +20,16 @@ pub returns : need.returns
 returns c =
     let f = form-of (c .args .form) in
     let bs = text-bytes (c .args .text .now) in
-    let all = read (need.at·returns c .In-Continue-ballots) in
-    (record {
-      proper = c .in-Ok .ensures tt .0;
-      form-is = refl;
-      contest-is = ap (λ s. s .candidates) (c .in-Ok .ensures tt .1);
-      text-is = refl;
-      lines = all .lines;
-      holds = subst (λ s. Holds f s bs (all .lines)) (c .in-Ok .ensures tt .1) (all .holds);
-      groups-are = holds-groups f (contest-slate (c .in-Ok .contest)) bs (all .lines) (all .holds);
-      start = refl;
-    }, refl)
+    let all = read (need.at·returns c .In-Continue-ballots) in (
+      record {
+        proper = c .in-Ok .ensures tt .0;
+        form-is = refl;
+        contest-is = ap (λ s. s .candidates) (c .in-Ok .ensures tt .1);
+        text-is = refl;
+        lines = all .lines;
+        holds = subst (λ s. Holds f s bs (all .lines)) (c .in-Ok .ensures tt .1) (all .holds);
+        groups-are = holds-groups f (contest-slate (c .in-Ok .contest)) bs (all .lines) (all .holds);
+        start = refl;
+      },
+      refl,
+    )
