@@ -1,5 +1,8 @@
 pub mod Bits
 pub mod Tallies
 pub mod Lists
-pub mod Laws
+pub mod Adding
+pub mod Least
+pub mod Paths
 pub mod Unique
+pub mod Laws

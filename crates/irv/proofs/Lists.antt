@@ -69,24 +69,24 @@ at-most-as-many s (x ∷ xs) ys h sub =
     omega arith
 
 -- the candidates from n down to 1
-abbrev down : ℕ → List ℕ
+abbrev pub down : ℕ → List ℕ
 down zero = []
 down (suc n) = suc n ∷ down n
 
-length-down : (n : ℕ) → length (down n) ≡ n
+pub length-down : (n : ℕ) → length (down n) ≡ n
 length-down zero = refl
 length-down (suc n) = ap suc (length-down n)
 
-mem-down : (n c : ℕ) → mem c (down n) ≡ (leb 1 c && leb c n)
+pub mem-down : (n c : ℕ) → mem c (down n) ≡ (leb 1 c && leb c n)
 mem-down zero c = grind (arith, tells)
 mem-down (suc n) c = ap (λ b. eqb (suc n) c || b) (mem-down n c) ∙ grind (arith, tells)
 
-ranks-down : (m n : ℕ) → n ≤ m → ranks (slate m) (down n) ≡ true
+pub ranks-down : (m n : ℕ) → n ≤ m → ranks (slate m) (down n) ≡ true
 ranks-down m zero h = refl
 ranks-down m (suc n) h =
     ranks-from (slate m) (suc n) (down n) (grind (arith, tells)) (mem-down n (suc n) ∙ grind (arith, tells)) (ranks-down m n (omega arith))
 
-all-members : (s : Slate) (cs : List ℕ) → ranks s cs ≡ true → (c : ℕ) → mem c cs ≡ true → member s c ≡ true
+pub all-members : (s : Slate) (cs : List ℕ) → ranks s cs ≡ true → (c : ℕ) → mem c cs ≡ true → member s c ≡ true
 all-members s [] h c in′ = absurd (both-ways false refl in′)
 all-members s (x ∷ cs) h c in′ = ⊎-elim (λ same. subst (λ y. member s y ≡ true) (eqb-true x c same) (first-member s x cs h)) (λ later. all-members s cs (rest-ranks s x cs h) c later) (or-cases (eqb x c) (mem c cs) in′)
 

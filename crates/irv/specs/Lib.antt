@@ -1,4 +1,5 @@
 pub mod Sets
 pub mod Ballots
 pub mod Orders
+pub mod Tables
 pub mod Laws
