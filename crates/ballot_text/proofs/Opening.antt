@@ -15,11 +15,11 @@ use Rattle.std.specs.shelf.Lists.{All}
 use Rattle.forms.specs.Texts.{Holds, Good, Faulty, Refused}
 use Rattle.forms.specs.Written.{semicolon, newline, written-ranking, Form, Line, WellFormed, line-bytes, text-of, group-of}
 use Rattle.ballot.specs.Values.{group-value}
-use Rattle.ballot_text.specs.Faults.{cause-refusal, TakesGroup, FaultyLine}
+use Rattle.ballot_line.specs.Faults.{cause-refusal, TakesGroup, FaultyLine}
 use Rattle.ballot_text.specs.Openings.{ReadsAll, FaultyText}
 use Rattle.ballot_text.specs.declared.fault.Fault.{Fault}
-use Rattle.ballot_text.specs.declared.judge.GroupRead.{GroupRead}
-use Rattle.ballot_text.specs.declared.judge.LineFault.{LineFault}
+use Rattle.ballot_line.specs.declared.judge.GroupRead.{GroupRead}
+use Rattle.ballot_line.specs.declared.judge.LineFault.{LineFault}
 
 -- the text up to byte at is good lines, so many that the next has this number, and they have so many ballots
 pub record ReadTo (f : Form) (s : Slate) (bs : List ℕ) (at line sum : ℕ) : Type 0 where

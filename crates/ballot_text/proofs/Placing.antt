@@ -17,12 +17,12 @@ use Rattle.forms.specs.Texts.{Holds, Good}
 use Rattle.forms.specs.Written.{Form, Line, WellFormed, line-bytes, text-of, group-of}
 use Rattle.forms.proofs.Outcome.{fit-goods, Goods, good-not-refused}
 use Rattle.forms.proofs.Reading.{one-line, some-bytes}
-use Rattle.ballot_text.specs.Faults.{TakesGroup, FaultyLine}
+use Rattle.ballot_line.specs.Faults.{TakesGroup, FaultyLine}
 use Rattle.ballot_text.specs.Openings.{ReadsAll}
 use Rattle.ballot_text.specs.Readings.{Reading}
 use Rattle.ballot_text.specs.Sound.{reading-groups}
-use Rattle.ballot_text.specs.declared.judge.GroupRead.{GroupRead}
-use Rattle.ballot_text.specs.declared.judge.LineFault.{LineFault}
+use Rattle.ballot_line.specs.declared.judge.GroupRead.{GroupRead}
+use Rattle.ballot_line.specs.declared.judge.LineFault.{LineFault}
 use Rattle.ballot_text.proofs.Opening.{lines-le}
 
 pub at-start : (f : Form) (n : ℕ) (bs : List ℕ) (sum : ℕ) → ReadsAll f (slate n) bs sum → Reading f n bs sum 0 0

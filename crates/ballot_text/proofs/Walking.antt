@@ -14,9 +14,9 @@ use Rattle.forms.proofs.Fronts.{no-break}
 use Rattle.forms.proofs.Outcome.{fit-goods}
 use Rattle.forms.proofs.Reading.{one-line, some-bytes}
 use Rattle.ballot_text.specs.Fields.{FieldsAmong}
-use Rattle.ballot_text.specs.Lines.{line-of, ReadsLine}
+use Rattle.ballot_line.specs.Lines.{line-of, ReadsLine}
 use Rattle.ballot_text.specs.Readings.{Reading}
-use Rattle.ballot_text.specs.declared.line.LineRead.{LineRead}
+use Rattle.ballot_line.specs.declared.line.LineRead.{LineRead}
 use Rattle.ballot_text.specs.declared.lines.fields.LineFields.{LineFields}
 use Rattle.ballot_text.proofs.Placing.{left-text, Next, next-line, good-at, text-append}
 

@@ -8,7 +8,7 @@ use Rattle.ballot.specs.declared.refusal.Refusal.{Refusal}
 use Rattle.ballot.specs.declared.refusal.Refusal.the-variants.{PlaceOutOfRange}
 use Rattle.forms.specs.Texts.{Holds}
 use Rattle.forms.specs.Written.{Form, Line, written-ranking, text-of}
-use Rattle.ballot_text.specs.Lines.{form-of, field-bytes, IsFirst, IsSecond}
+use Rattle.ballot_line.specs.Lines.{form-of, field-bytes, IsFirst, IsSecond}
 use Rattle.ballot_text.specs.Texts.{text-bytes}
 use Rattle.ballot_text.specs.declared.lines.BallotLines.{BallotLines}
 use Rattle.ballot_text.specs.declared.lines.fields.LineFields.{LineFields}

@@ -1,11 +1,7 @@
-pub mod Tokens
-pub mod Rows
-pub mod Lines
-pub mod Faults
+pub mod Forms
+pub mod Texts
 pub mod Readings
 pub mod Openings
-pub mod Sources
-pub mod Texts
 pub mod Sound
-pub mod Forms
+pub mod Sources
 pub mod Fields

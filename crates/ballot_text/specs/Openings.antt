@@ -7,7 +7,7 @@ use Rattle.irv.specs.Ballots.{Slate, slate, Proper, ballots}
 use Rattle.ballot.specs.declared.refusal.Refusal.the-variants.{CandidatesOutOfRange}
 use Rattle.forms.specs.Texts.{Holds, Cause, Faulty}
 use Rattle.forms.specs.Written.{Form, Line, group-of}
-use Rattle.ballot_text.specs.Faults.{cause-refusal}
+use Rattle.ballot_line.specs.Faults.{cause-refusal}
 use Rattle.ballot_text.specs.declared.fault.Fault.{Fault}
 
 -- a contest that is refused has no place in the text

@@ -8,10 +8,10 @@ use Rattle.ballot.specs.Values.{contest-slate}
 use Rattle.forms.specs.Decoded.{decoded}
 use Rattle.forms.specs.Texts.{Holds}
 use Rattle.forms.specs.Written.{Form, Line, group-of}
-use Rattle.ballot_text.specs.Lines.{form-of}
+use Rattle.ballot_line.specs.Lines.{form-of}
 use Rattle.ballot_text.specs.Sound.{reading-sound}
 use Rattle.ballot_text.specs.Texts.{text-bytes}
-use Rattle.ballot_text.specs.declared.field.TextForm.{TextForm}
+use Rattle.ballot_line.specs.declared.field.TextForm.{TextForm}
 use Rattle.ballot_text.specs.declared.lines.BallotLines.{BallotLines}
 
 -- the groups of the text's lines

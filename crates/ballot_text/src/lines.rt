@@ -1,11 +1,11 @@
 // The lines of a text of ballots, as a source.
 ghost use denote.Ref.{now};
-ghost use Rattle.ballot_text.specs.Lines.{form-of};
+ghost use Rattle.ballot_line.specs.Lines.{form-of};
 ghost use Rattle.ballot_text.specs.Readings.{Reading};
 ghost use Rattle.ballot_text.specs.Texts.{text-bytes};
-use crate::field::TextForm;
 use crate::text::BallotText;
 use ballot::contest::Contest;
+use ballot_line::TextForm;
 
 pub mod fields;
 pub mod methods;

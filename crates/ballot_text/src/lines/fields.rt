@@ -3,10 +3,10 @@ ghost use mathlib.Core.Path.{_≡_};
 ghost use Prim.Native.Nat.{ℕ};
 ghost use Rattle.std.specs.Results.{Cases};
 ghost use Rattle.ballot_text.specs.Fields.{FieldsOfLine, NoSuchLine};
-use crate::field::Field;
-use crate::line::read_line;
 use crate::lines::BallotLines;
 use ballot::refusal::Refusal;
+use ballot_line::Field;
+use ballot_line::read_line;
 
 // The two fields of a line, as they stand in the text, and the byte of the text, from 0, where the line begins.
 #[derive(Clone, Copy)]

@@ -5,17 +5,17 @@ ghost use Rattle.std.specs.Results.{Cases};
 ghost use Rattle.irv.specs.Ballots.{slate, ballots};
 ghost use Rattle.ballot.specs.Sources.{HandsOut};
 ghost use Rattle.ballot.specs.Values.{contest-slate};
-ghost use Rattle.ballot_text.specs.Lines.{form-of};
+ghost use Rattle.ballot_line.specs.Lines.{form-of};
 ghost use Rattle.ballot_text.specs.Openings.{ReadsAll, FaultyText, OpeningRefused};
 ghost use Rattle.ballot_text.specs.Sources.{line-groups, OpenedLines, SameText};
 ghost use Rattle.ballot_text.specs.Texts.{text-bytes};
 use crate::fault::Fault;
-use crate::field::TextForm;
-use crate::judge::take_group;
 use crate::lines::BallotLines;
 use crate::text::BallotText;
 use ballot::contest::Contest;
 use ballot::group::Group;
+use ballot_line::TextForm;
+use ballot_line::take_group;
 
 // How many ballots the lines of the text have together, or the first faulty line.
 fn read_all(form: TextForm, contest: Contest, text: &[u8]) -> Result<u32, Fault>

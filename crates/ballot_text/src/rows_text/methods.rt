@@ -9,7 +9,6 @@ ghost use Rattle.ballot_text.specs.Openings.{OpeningRefused};
 ghost use Rattle.ballot_text.specs.Sources.{line-groups, lines-sound, OpenedText};
 ghost use Rattle.ballot_text.specs.Texts.{text-bytes};
 use crate::fault::Fault;
-use crate::field::TextForm;
 use crate::lines::BallotLines;
 use crate::lines::fields::LineFields;
 use crate::rows_text::RowsText;
@@ -17,6 +16,7 @@ use crate::text::BallotText;
 use ballot::group::Group;
 use ballot::refusal::Refusal;
 use ballot::source::BallotSource;
+use ballot_line::TextForm;
 
 impl<'a, 't> RowsText<'a, 't> {
     // The text as a source for a contest of so many candidates, its place at the start; or why it is refused:

@@ -1,4 +1,4 @@
-use Rattle.ballot_text.specs.Lines.{form-of}
+use Rattle.ballot_line.specs.Lines.{form-of}
 use Rattle.ballot_text.specs.Sound.{reading-sum}
 use Rattle.ballot_text.specs.Texts.{text-bytes}
 use Rattle.ballot_text.proofs.lines.BallotLines.ballots.Needs as need

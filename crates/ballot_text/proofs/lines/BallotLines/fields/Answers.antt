@@ -6,7 +6,7 @@ use Rattle.std.proofs.shelf.Lists.{take-rest}
 use Rattle.irv.specs.Ballots.{slate}
 use Rattle.forms.specs.Languages.{Breaks}
 use Rattle.forms.specs.Written.{LineOf}
-use Rattle.ballot_text.specs.Lines.{form-of, ReadsLine}
+use Rattle.ballot_line.specs.Lines.{form-of, ReadsLine}
 use Rattle.ballot_text.specs.Texts.{text-bytes}
 use Rattle.ballot_text.proofs.Walking.{passed-none, passed-more, passed-all, fields-found, never-broken, read-within}
 use Rattle.ballot_text.proofs.lines.BallotLines.fields.Needs as need

@@ -1,7 +1,7 @@
 use Prim.Native.Nat.{_-_, _≤_, _<_}
 use lib.ListN.{length}
 use Rattle.irv.specs.Ballots.{slate}
-use Rattle.ballot_text.specs.Lines.{form-of}
+use Rattle.ballot_line.specs.Lines.{form-of}
 use Rattle.ballot_text.specs.Texts.{text-bytes}
 use Rattle.ballot_text.proofs.Walking.{Passed}
 use Rattle.ballot_text.proofs.lines.BallotLines.fields.Given as given

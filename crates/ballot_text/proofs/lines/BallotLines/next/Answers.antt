@@ -4,8 +4,8 @@ use native.Mathlib.Omega.{arith}
 use lib.ListN.{length, drop}
 use Rattle.std.proofs.shelf.Lists.{take-rest}
 use Rattle.irv.specs.Ballots.{slate}
-use Rattle.ballot_text.specs.Faults.{TakesGroup, FaultyLine}
-use Rattle.ballot_text.specs.Lines.{form-of}
+use Rattle.ballot_line.specs.Faults.{TakesGroup, FaultyLine}
+use Rattle.ballot_line.specs.Lines.{form-of}
 use Rattle.ballot_text.specs.Texts.{text-bytes}
 use Rattle.ballot_text.proofs.Placing.{all-out, never-faulty, next-out, next-reading, next-within, place-bound}
 use Rattle.ballot_text.proofs.lines.BallotLines.next.Needs as need

@@ -1,7 +1,7 @@
 use mathlib.Core.Path.{refl, ap, subst}
 use Rattle.ballot.specs.Values.{contest-slate}
 use Rattle.forms.specs.Texts.{Holds}
-use Rattle.ballot_text.specs.Lines.{form-of}
+use Rattle.ballot_line.specs.Lines.{form-of}
 use Rattle.ballot_text.specs.Openings.{ReadsAll}
 use Rattle.ballot_text.specs.Sound.{holds-groups}
 use Rattle.ballot_text.specs.Texts.{text-bytes}

@@ -1,4 +1,4 @@
-use Rattle.ballot_text.specs.Lines.{form-of}
+use Rattle.ballot_line.specs.Lines.{form-of}
 use Rattle.ballot_text.specs.Texts.{text-bytes}
 use Rattle.ballot_text.proofs.Placing.{again-at-start}
 use Rattle.ballot_text.proofs.lines.BallotLines.rewind.Needs as need

@@ -4,8 +4,8 @@ use native.Mathlib.Omega.{arith}
 use lib.ListN.{length, take, drop}
 use Rattle.std.proofs.shelf.Lists.{take-rest}
 use Rattle.ballot.specs.Values.{contest-slate}
-use Rattle.ballot_text.specs.Faults.{TakesGroup, FaultyLine}
-use Rattle.ballot_text.specs.Lines.{form-of}
+use Rattle.ballot_line.specs.Faults.{TakesGroup, FaultyLine}
+use Rattle.ballot_line.specs.Lines.{form-of}
 use Rattle.ballot_text.proofs.Opening.{ReadTo, line-within, some-read, at-within, read-more, read-faulty, read-whole}
 use Rattle.ballot_text.proofs.lines.methods.read_all.Needs as need
 use Rattle.ballot_text.proofs.lines.methods.read_all.Needs.{After-count-sum}

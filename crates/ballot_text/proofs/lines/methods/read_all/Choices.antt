@@ -1,7 +1,7 @@
 use Prim.Native.Nat.{_-_, _≤_}
 use lib.ListN.{length}
 use Rattle.ballot.specs.Values.{contest-slate}
-use Rattle.ballot_text.specs.Lines.{form-of}
+use Rattle.ballot_line.specs.Lines.{form-of}
 use Rattle.ballot_text.proofs.Opening.{ReadTo}
 use Rattle.ballot_text.proofs.lines.methods.read_all.Given as given
 
