@@ -12,7 +12,7 @@ use Rattle.std.proofs.shelf.Ways.{tells}
 use Rattle.irv.specs.Sets.{Set, has, set-of}
 use Rattle.irv.specs.Ballots.{Slate, slate, member, mem, ranks}
 use Rattle.irv.specs.Orders.{Order, EachStep}
-use Rattle.irv.specs.Laws.{Stands}
+use Rattle.irv.specs.Laws.{WithAnother}
 use Rattle.irv.proofs.Bits.{listed}
 
 -- what `ranks` says of the first and of the rest
@@ -100,7 +100,7 @@ every-member s o is = omega (arith, ranked-at-most-once s o (is .ranking), lengt
 pub in-set : (s : Slate) (c : ℕ) (cs : List ℕ) → member s c ≡ true → mem c cs ≡ true → has (set-of cs) c ≡ true
 in-set s c cs is in′ = listed cs c ∙ and-from (ltb 0 c) (mem c cs) (and-parts (leb 1 c) _ is .0) in′
 
-steps-of : (s : Slate) (o : List ℕ) → ranks s o ≡ true → EachStep Stands o
+steps-of : (s : Slate) (o : List ℕ) → ranks s o ≡ true → EachStep WithAnother o
 steps-of s [] h = tt
 steps-of s (c ∷ []) h = tt
 steps-of s (c ∷ d ∷ e) h =
@@ -116,7 +116,7 @@ steps-of s (c ∷ d ∷ e) h =
       steps-of s (d ∷ e) rest,
     )
 
-pub steps-stand : (s : Slate) (o : List ℕ) → Order s o → EachStep Stands o
+pub steps-stand : (s : Slate) (o : List ℕ) → Order s o → EachStep WithAnother o
 steps-stand s o is = steps-of s o (is .ranking)
 
 -- who is in a list, and in the same list with one more

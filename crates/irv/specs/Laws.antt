@@ -22,10 +22,10 @@ pub record TallyLaws : Type 0 where
   pub at-most-all : (s : Slate) (gs : List BallotGroup) (R : Set) (c : ℕ) → tally s gs R c ≤ ballots gs
 
 -- who goes out stands, and somebody else does too
-abbrev pub Stands : Set → ℕ → Type 0
-Stands R c = (has R c ≡ true) × ((d : ℕ) × (has R d ≡ true) × (d ≡ c → ⊥))
+abbrev pub WithAnother : Set → ℕ → Type 0
+WithAnother R c = (has R c ≡ true) × ((d : ℕ) × (has R d ≡ true) × (d ≡ c → ⊥))
 
 pub record OrderLaws : Type 0 where
   pub ranked-at-most-once : (s : Slate) (cs : List ℕ) → ranks s cs ≡ true → length cs ≤ s .candidates
   pub every-member : (s : Slate) (o : List ℕ) → Order s o → length o ≡ s .candidates
-  pub steps-stand : (s : Slate) (o : List ℕ) → Order s o → EachStep Stands o
+  pub steps-stand : (s : Slate) (o : List ℕ) → Order s o → EachStep WithAnother o

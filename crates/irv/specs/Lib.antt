@@ -2,4 +2,5 @@ pub mod Sets
 pub mod Ballots
 pub mod Orders
 pub mod Tables
+pub mod Endings
 pub mod Laws
