@@ -6,3 +6,5 @@ pub mod lent;
 pub mod ranking;
 pub mod refusal;
 pub mod source;
+#[cfg(test)]
+mod tests;
