@@ -7,7 +7,7 @@ use lib.ListN.{length, take, drop, length-append}
 use Rattle.std.specs.Written.{decimal}
 use Rattle.std.proofs.shelf.Lists.{take-at, drop-at}
 use Rattle.forms.specs.Written.{semicolon, newline, Form, row-lines, group-lines, IsHead, written-ranking, line-bytes, LineOf}
-use Rattle.forms.specs.Fronts.{Ends, BreaksBefore, Lacks, RankingEnd, HeadOf}
+use Rattle.forms.specs.Fronts.{Ends, BreaksBefore, NotFirst, RankingEnd, HeadOf}
 use Rattle.forms.proofs.Lines.{head-missing, mark-missing, line-breaks}
 use Rattle.ballot_line.specs.Tokens.{TakesNumber}
 use Rattle.ballot_line.specs.Rows.{TakesRanking}
@@ -43,7 +43,7 @@ head-is : (f : Form) (bs : List ℕ) (count : ℕ) → IsHead f bs count → Hea
 head-is row-lines bs count h = h .0
 head-is group-lines bs count h = (count, h)
 
-pub line-unmarked : (f : Form) (bs : List ℕ) (field : Field) (count : ℕ) (rest stop : List ℕ) → TakesHead f bs field count rest → stop ≡ rest → Lacks semicolon rest → BreaksBefore (LineOf f) bs stop
+pub line-unmarked : (f : Form) (bs : List ℕ) (field : Field) (count : ℕ) (rest stop : List ℕ) → TakesHead f bs field count rest → stop ≡ rest → NotFirst semicolon rest → BreaksBefore (LineOf f) bs stop
 line-unmarked f bs field count rest stop h same lacks =
     subst (λ l. BreaksBefore (LineOf f) l stop) (sym (h .split)) (subst (λ l. BreaksBefore (LineOf f) (field-bytes field ++ rest) l) (sym same)
     (mark-missing f (field-bytes field) rest (head-is f _ count (h .formed)) (h .ends) lacks))

@@ -10,7 +10,7 @@ use Rattle.std.specs.Written.{decimal}
 use Rattle.std.proofs.shelf.Lists.{take-more-set, joined-more, length-take-le}
 use Rattle.std.proofs.shelf.Elements.{all-push}
 use Rattle.forms.specs.Written.{comma, hyphen, newline, written-numbers}
-use Rattle.forms.specs.Fronts.{BreaksBefore, Then, Lacks, Number, IsSmall, MoreNumbers, Numbers, RankingEnd}
+use Rattle.forms.specs.Fronts.{BreaksBefore, Then, NotFirst, Number, IsSmall, MoreNumbers, Numbers, RankingEnd}
 use Rattle.forms.proofs.RankingBreaks.{more-breaks, more-missing, number-breaks, number-missing, written-more, ranking-written, blank-breaks}
 use Rattle.ballot_line.specs.Tokens.{TakesNumber, NoNumber}
 use Rattle.ballot_line.specs.Rows.{Marks, TakesNumbers, TakesRanking}
@@ -43,7 +43,7 @@ module _ (d e limit : ℕ) (marks : Marks d e) (bs values : List ℕ) (len : ℕ
       (number-breaks d e limit (marks .joins) (marks .ends) (marks .differ) (len + 1) v next stop (t .small) (t .ends) b))
 
   -- neither the end follows, nor, while there is room, a byte that joins
-  pub row-breaks : (v : ℕ) (next stop : List ℕ) → TakesNumber rest v next → stop ≡ next → Lacks e next → (len + 1 < limit → Lacks d next) → BreaksBefore (Numbers d e limit) bs stop
+  pub row-breaks : (v : ℕ) (next stop : List ℕ) → TakesNumber rest v next → stop ≡ next → NotFirst e next → (len + 1 < limit → NotFirst d next) → BreaksBefore (Numbers d e limit) bs stop
   row-breaks v next stop t same lacks lacks-d =
       subst (λ l. BreaksBefore (Numbers d e limit) bs l) (sym same)
       (row-lifts v next next t (more-missing d e limit (marks .joins) (marks .ends) (marks .differ) (len + 1) next (omega (arith, h .few)) lacks lacks-d))
@@ -87,6 +87,6 @@ ranking-row bs values len rest h =
       split = h .split ∙ ap (λ l. l ++ (newline ∷ rest)) (sym (ranking-written (take len values) some));
     }
 
-pub ranking-unended : (bs blank rest : List ℕ) → bs ≡ hyphen ∷ blank → rest ≡ blank → Lacks newline blank → BreaksBefore RankingEnd bs rest
+pub ranking-unended : (bs blank rest : List ℕ) → bs ≡ hyphen ∷ blank → rest ≡ blank → NotFirst newline blank → BreaksBefore RankingEnd bs rest
 ranking-unended bs blank rest is same lacks =
     subst (λ l. BreaksBefore RankingEnd l rest) (sym is) (subst (λ l. BreaksBefore RankingEnd (hyphen ∷ blank) l) (sym same) (blank-breaks blank lacks))

@@ -8,7 +8,7 @@ ghost use lib.ListN.{length, take, drop};
 ghost use Rattle.std.specs.Results.{Cases};
 ghost use Rattle.std.specs.shelf.Lists.{All};
 ghost use Rattle.forms.specs.Written.{identifier-byte};
-ghost use Rattle.forms.specs.Fronts.{Lacks, Outside, digit-byte};
+ghost use Rattle.forms.specs.Fronts.{NotFirst, Outside, digit-byte};
 ghost use Rattle.ballot_line.specs.Tokens.{TakesNumber, NoNumber, TakesIdentifier, NoIdentifier};
 
 #[derive(Clone, Copy)]
@@ -30,7 +30,7 @@ const NINE_DIGITS: u32 = 100_000_000;
 
 // Takes the byte `byte` off the front.
 pub(crate) fn expect<'t>(left: &'t [u8], byte: u8) -> Result<&'t [u8], &'t [u8]>
-    ensures { λ r. ⌜ Cases r (λ rest. now (left .entry) ≡ byte ∷ now rest) (λ rest. (now rest ≡ now (left .entry)) × Lacks byte (now (left .entry))) ⌝ }
+    ensures { λ r. ⌜ Cases r (λ rest. now (left .entry) ≡ byte ∷ now rest) (λ rest. (now rest ≡ now (left .entry)) × NotFirst byte (now (left .entry))) ⌝ }
 {
     let Some((first, rest)) = left.split_first() else {
         return Err(left);

@@ -10,7 +10,7 @@ use Rattle.std.specs.shelf.Lists.{All}
 use Rattle.std.proofs.shelf.Lists.{take-at}
 use Rattle.std.proofs.shelf.Tests.{both-ways}
 use Rattle.forms.specs.Languages.{Language, Viable, Continues, Breaks}
-use Rattle.forms.specs.Fronts.{Ends, BreaksBefore, Then, Behind, Lacks}
+use Rattle.forms.specs.Fronts.{Ends, BreaksBefore, Then, Behind, NotFirst}
 
 -- of two fronts of a list one is the beginning of the other
 abbrev Overlap : List ℕ → List ℕ → List ℕ → List ℕ → Type 0
@@ -66,7 +66,7 @@ behind-breaks d X bs rest h = record {
 }
 
 -- the byte d is missing
-pub behind-missing : (d : ℕ) (X : Language) (x bs : List ℕ) → X x → Lacks d bs → BreaksBefore (Behind d X) bs bs
+pub behind-missing : (d : ℕ) (X : Language) (x bs : List ℕ) → X x → NotFirst d bs → BreaksBefore (Behind d X) bs bs
 behind-missing d X x bs has lacks = record {
   read = [];
   split = refl;

@@ -2,16 +2,17 @@
 use mathlib.Core.Path.{_≡_, refl, sym, ap, subst, _∙_}
 use mathlib.Core.Bool.{true, false}
 use mathlib.Core.List.{List, [], _∷_, _++_}
-use Prim.Native.Nat.{ℕ, _+_, _%_, _≤_, _<_}
+use Prim.Native.Nat.{ℕ, _≤_, _<_}
 use native.Mathlib.Omega.{arith}
 use lib.Dec.{leb}
-use Rattle.std.proofs.shelf.Decimals.{decimal-by-steps}
-use Rattle.std.proofs.shelf.Elements.{all-weaker, all-append, all-push}
-use Rattle.std.proofs.shelf.Tests.{both-ways, le-leb, and-from, or-left, or-right}
+use Rattle.std.proofs.shelf.Elements.{all-weaker, all-append}
+use Rattle.std.proofs.shelf.Tests.{both-ways, le-leb, leb-true, and-parts, and-from, or-left, or-right}
 use Rattle.std.specs.Joined.{joined}
 use Rattle.std.specs.shelf.Lists.{All}
 use Rattle.std.specs.Written.{decimal}
 use Rattle.forms.specs.Written.{comma, newline, number-limit, identifier-byte, written-ranking, Form, row-lines, group-lines, IsHead}
+use Rattle.forms.specs.Fronts.{digit-byte}
+use Rattle.forms.proofs.Digits as digits
 
 -- no byte of bs is d
 abbrev pub Lacks : ℕ → List ℕ → Type 0
@@ -33,7 +34,8 @@ abbrev pub Digit : ℕ → Type 0
 Digit b = (48 ≤ b) × (b ≤ 57)
 
 pub decimal-digits : (v : ℕ) → v < number-limit → All Digit (decimal v)
-decimal-digits v small = decimal-by-steps (λ n ds. All Digit ds) (λ n h. ((omega arith, omega arith), tt)) (λ n ds h all. all-push Digit ds (48 + n % 10) all (omega arith, omega arith)) v (omega arith)
+decimal-digits v small =
+    all-weaker (λ b. digit-byte b ≡ true) Digit (λ b is. let parts = and-parts (leb 48 b) (leb b 57) is in (leb-true 48 b (parts .0), leb-true b 57 (parts .1))) (decimal v) (digits.decimal-digits v (omega arith))
 
 pub digits-lack : (d : ℕ) → d < 48 → (bs : List ℕ) → All Digit bs → Lacks d bs
 digits-lack d low bs h = all-weaker Digit (λ b. b ≡ d → ⊥) (λ b is e. omega arith) bs h

@@ -1,6 +1,6 @@
-pub mod Bytes
-pub mod Digits
 pub mod Breaking
+pub mod Digits
+pub mod Bytes
 pub mod RankingBreaks
 pub mod Lines
 pub mod Reading

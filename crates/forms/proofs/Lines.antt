@@ -7,7 +7,7 @@ use native.Mathlib.Omega.{arith}
 use Rattle.std.specs.Written.{decimal}
 use Rattle.forms.specs.Languages.{Language}
 use Rattle.forms.specs.Written.{semicolon, newline, hyphen, Form, row-lines, group-lines, Line, IsIdentifier, identifier-byte, IsRanking, written-ranking, LineOf}
-use Rattle.forms.specs.Fronts.{Ends, BreaksBefore, Then, Behind, Lacks, digit-byte, Number, RankingEnd, HeadOf}
+use Rattle.forms.specs.Fronts.{Ends, BreaksBefore, Then, Behind, NotFirst, digit-byte, Number, RankingEnd, HeadOf}
 use Rattle.forms.proofs.Breaking.{then-breaks, then-missing, behind-breaks, behind-missing, same-breaks}
 use Rattle.forms.proofs.Digits.{number-digits, number-some, number-is, identifier-some}
 
@@ -57,7 +57,7 @@ tail-breaks f head bs rest is ends h = same-breaks (Then (HeadOf f) Tail) (LineO
     go group-lines is ends = then-breaks Number Tail digit-byte number-digits (apart digit-byte refl) head bs rest is ends h
 
 -- the byte between the fields is missing
-pub mark-missing : (f : Form) (head bs : List ℕ) → HeadOf f head → Ends (HeadOf f) head bs → Lacks semicolon bs → BreaksBefore (LineOf f) (head ++ bs) bs
+pub mark-missing : (f : Form) (head bs : List ℕ) → HeadOf f head → Ends (HeadOf f) head bs → NotFirst semicolon bs → BreaksBefore (LineOf f) (head ++ bs) bs
 mark-missing f head bs is ends lacks = tail-breaks f head bs bs is ends (behind-missing semicolon RankingEnd _ bs (a-tail .1) lacks)
 
 -- the ranking breaks

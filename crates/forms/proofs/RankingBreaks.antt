@@ -10,7 +10,7 @@ use Rattle.std.specs.shelf.Lists.{All}
 use Rattle.std.specs.Written.{decimal}
 use Rattle.std.proofs.shelf.Tests.{both-ways}
 use Rattle.forms.specs.Written.{comma, hyphen, newline, written-numbers, written-ranking}
-use Rattle.forms.specs.Fronts.{Ends, BreaksBefore, Then, Lacks, digit-byte, Number, IsSmall, MoreNumbers, Numbers, RankingEnd}
+use Rattle.forms.specs.Fronts.{Ends, BreaksBefore, Then, NotFirst, digit-byte, Number, IsSmall, MoreNumbers, Numbers, RankingEnd}
 use Rattle.forms.proofs.Breaking.{then-breaks, then-missing}
 use Rattle.forms.proofs.Digits.{decimal-digits, number-digits, number-some, number-is}
 
@@ -51,7 +51,7 @@ module _ (d e limit : ℕ) (d-mark : digit-byte d ≡ false) (e-mark : digit-byt
   }
 
   -- neither the end nor a byte that joins
-  pub more-missing : (k : ℕ) (bs : List ℕ) → k ≤ limit → Lacks e bs → (k < limit → Lacks d bs) → BreaksBefore (MoreNumbers d e limit k) bs bs
+  pub more-missing : (k : ℕ) (bs : List ℕ) → k ≤ limit → NotFirst e bs → (k < limit → NotFirst d bs) → BreaksBefore (MoreNumbers d e limit k) bs bs
   more-missing k bs few lacks lacks-d = record {
     read = [];
     split = refl;
@@ -93,7 +93,7 @@ no-hyphen v small x r e = go (decimal v) (decimal-digits v (omega arith)) (λ no
     go (b ∷ t) all some e = both-ways (digit-byte b) (let same : b ≡ hyphen = cc in subst (λ n. digit-byte n ≡ false) (sym same) refl) (all .0)
 
 -- behind the hyphen of a blank ranking
-pub blank-breaks : (bs : List ℕ) → Lacks newline bs → BreaksBefore RankingEnd (hyphen ∷ bs) bs
+pub blank-breaks : (bs : List ℕ) → NotFirst newline bs → BreaksBefore RankingEnd (hyphen ∷ bs) bs
 blank-breaks bs lacks = record {
   read = hyphen ∷ [];
   split = refl;
@@ -113,7 +113,7 @@ ranking-to w (t, x, (v, is), (vs, few, small, ends), whole) = (
 )
 
 -- a ranking that does not begin with a hyphen is one of numbers
-pub ranking-breaks : (bs rest : List ℕ) → Lacks hyphen bs → BreaksBefore (Numbers comma newline 16) bs rest → BreaksBefore RankingEnd bs rest
+pub ranking-breaks : (bs rest : List ℕ) → NotFirst hyphen bs → BreaksBefore (Numbers comma newline 16) bs rest → BreaksBefore RankingEnd bs rest
 ranking-breaks bs rest lacks h = record {
   read = h .read;
   split = h .split;

@@ -31,8 +31,8 @@ abbrev pub Behind : ℕ → Language → Language
 Behind d X w = (x : List ℕ) × X x × (w ≡ d ∷ x)
 
 -- bs does not begin with d
-abbrev pub Lacks : ℕ → List ℕ → Type 0
-Lacks d bs = (b : ℕ) (more : List ℕ) → bs ≡ b ∷ more → b ≡ d → ⊥
+abbrev pub NotFirst : ℕ → List ℕ → Type 0
+NotFirst d bs = (b : ℕ) (more : List ℕ) → bs ≡ b ∷ more → b ≡ d → ⊥
 
 -- bs does not begin with a byte of the class C
 abbrev pub Outside : (ℕ → Bool) → List ℕ → Type 0
