@@ -8,3 +8,4 @@ pub mod refusal;
 pub mod source;
 #[cfg(test)]
 mod tests;
+pub mod walk;

@@ -3,6 +3,8 @@ mod fault;
 mod groups_text;
 mod lines;
 mod rows_text;
+#[cfg(test)]
+mod tests;
 mod text;
 
 pub use fault::Fault;

@@ -1,5 +1,6 @@
 // count_ballots CANDIDATES rows|groups: counts the ballots on standard input once, step by step.
 use ballot::source::BallotSource;
+use ballot::walk::groups_in;
 use ballot_line::TextForm;
 use ballot_text::BallotText;
 use ballot_text::Fault;
@@ -75,16 +76,6 @@ fn print_step(
     }
     let out = step.out();
     println!(rt, " out={out}")
-}
-
-// How many groups the source hands out.
-fn groups_in<S: BallotSource>(source: &mut S) -> u64 {
-    source.rewind();
-    let mut groups = 0u64;
-    while let Some(_) = source.next() {
-        groups = groups.saturating_add(1);
-    }
-    groups
 }
 
 fn print_count<S: BallotSource>(rt: &LibcRuntime, source: &mut S, form: &str) -> io::Result<()> {

@@ -5,13 +5,14 @@ use mathlib.Core.Bool.{Bool, true, false, cond}
 use mathlib.Core.List.{List, [], _∷_}
 use Prim.Native.Nat.{ℕ, _+_, _≤_}
 use native.Mathlib.Omega.{arith}
-use lib.Dec.{eqb}
+use lib.Dec.{eqb, leb}
+use lib.ListN.{length}
 use Rattle.std.proofs.shelf.Sums.{sumBy-cons}
-use Rattle.std.proofs.shelf.Tests.{cases-bool, eqb-true, ne-eqb, both-ways}
+use Rattle.std.proofs.shelf.Tests.{ne-eqb, both-ways, and-parts, leb-true}
 use Rattle.std.specs.declared.option.Option.the-variants.{Some}
 use Rattle.std.specs.shelf.Lists.{sumBy}
 use Rattle.irv.specs.Sets.{Set, has}
-use Rattle.irv.specs.Ballots.{Slate, BallotGroup, ballots, owner, is-owned, belongs, worth, tally}
+use Rattle.irv.specs.Ballots.{Slate, ranks, BallotGroup, fits-group, all-fit, ballots, owner, is-owned, belongs, worth, tally}
 
 pub nobody-out : (R : Set) (r : List ℕ) (c : ℕ) → has R c ≡ false → belongs R r c ≡ false
 nobody-out R [] c out = refl
@@ -44,3 +45,11 @@ worth-le s R c g = part (belongs R (g .ranking) c)
 pub at-most-all : (s : Slate) (gs : List BallotGroup) (R : Set) (c : ℕ) → tally s gs R c ≤ ballots gs
 unfolding tally
 at-most-all s gs R c = sums-le (worth s R c) (λ g. g .count) (worth-le s R c) gs
+
+-- groups that fit have at most as many groups as ballots
+pub groups-le : (s : Slate) (gs : List BallotGroup) → all-fit s gs ≡ true → length gs ≤ ballots gs
+groups-le s [] fit = omega arith
+groups-le s (g ∷ gs) fit =
+    let parts = and-parts (fits-group s g) (all-fit s gs) fit in
+    let some = leb-true 1 (g .count) (and-parts (ranks s (g .ranking)) (leb 1 (g .count)) (parts .0) .1) in
+    omega (arith, sumBy-cons (λ h. h .count) g gs, groups-le s gs (parts .1))

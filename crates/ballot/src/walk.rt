@@ -1,0 +1,19 @@
+// Going through a source from start to end.
+ghost use mathlib.Core.Path.{_≡_};
+ghost use lib.ListN.{length};
+use crate::source::BallotSource;
+
+// How many groups the source has. Its place is left at the end.
+pub fn groups_in<S: BallotSource>(source: &mut S) -> u32
+    ensures value { λ r. ⌜ r ≡ length (groups (now (source .entry))) ⌝ }
+    ensures same_contest { λ _. ⌜ contest (now (source .exit)) ≡ contest (now (source .entry)) ⌝ }
+    ensures same_groups { λ _. ⌜ groups (now (source .exit)) ≡ groups (now (source .entry)) ⌝ }
+    ensures end { λ _. ⌜ place (now (source .exit)) ≡ length (groups (now (source .entry))) ⌝ }
+{
+    source.rewind();
+    let mut groups = 0;
+    while let Some(_) = source.next() {
+        groups += 1;
+    }
+    groups
+}
