@@ -1,7 +1,7 @@
 // Sets of candidates.
 ghost use mathlib.Core.Path.{_≡_};
 ghost use mathlib.Core.Bool.{true, false, cond};
-ghost use Rattle.irv.specs.Sets.{empty, has, with};
+ghost use Rattle.irv.specs.Sets.{empty, has, with, within};
 ghost use Rattle.ballot.specs.Sets.{members, in-range, Removed};
 
 // Who is in the set: candidate c, from 1 to 16, where bit c - 1 is set. Each set has one value.
@@ -30,6 +30,13 @@ impl CandidateSet {
             return false;
         }
         (bits >> (candidate - 1)) & 1 == 1
+    }
+
+    // Whether everybody in the set is in `other` too.
+    pub fn within(&self, other: &CandidateSet) -> bool
+        ensures { λ r. ⌜ r ≡ within (members (now (self .entry))) (members (now (other .entry))) ⌝ }
+    {
+        self.bits | other.bits == other.bits
     }
 
     // Puts `candidate` in; false, and nothing changed, where it is outside 1 to 16.

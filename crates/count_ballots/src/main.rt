@@ -1,4 +1,5 @@
-// count_ballots CANDIDATES rows|groups: counts the ballots on standard input once, step by step.
+// count_ballots CANDIDATES rows|groups: counts the ballots on standard input once, step by step, and says whether any
+// other count of them elects another.
 use ballot::source::BallotSource;
 use ballot::walk::groups_in;
 use ballot_line::TextForm;
@@ -10,11 +11,15 @@ use ballot_text::RowsText;
 use ballot_text::RowsTextSource;
 use elimination::count_step::CountStep;
 use elimination::counting::count_ballots;
-use std::alloc::Global;
+use elimination::recount::recount;
+use search::answer::Answer;
 use std::env;
 use std::error::AnyError;
 use std::io;
 use std::io::Read;
+
+// How many endings the recount may try.
+const RECOUNT_LIMIT: u64 = 1_000_000;
 
 const USAGE: &str =
     "usage: count_ballots CANDIDATES rows|groups, with the ballots on standard input";
@@ -78,6 +83,44 @@ fn print_step(
     println!(rt, " out={out}")
 }
 
+// Whether every count elects the winner, or the first that elects another.
+fn print_recount<S: BallotSource>(rt: &LibcRuntime, source: &mut S, winner: u32) -> io::Result<()> {
+    let answer = match recount(source, winner, RECOUNT_LIMIT) {
+        Ok(answer) => answer,
+        Err(refusal) => {
+            let number = refusal.number();
+            return println!(rt, "recount: refused={number}");
+        }
+    };
+    match answer {
+        Answer::NoSurvivor(tried) => {
+            println!(
+                rt,
+                "recount: every count elects {winner}, ties broken in any manner; {tried} endings tried"
+            )
+        }
+        Answer::Found(order, tried) => {
+            print!(rt, "recount: another count does not elect {winner}, order=")?;
+            print_list(rt, order.as_slice())?;
+            println!(rt, "; {tried} endings tried")
+        }
+        Answer::Stopped => println!(
+            rt,
+            "recount: stopped at its limit of {RECOUNT_LIMIT} endings"
+        ),
+    }
+}
+
+fn print_list(rt: &LibcRuntime, numbers: &[u32]) -> io::Result<()> {
+    for (i, number) in numbers.iter().enumerate() {
+        if i > 0 {
+            print!(rt, ",")?;
+        }
+        print!(rt, "{number}")?;
+    }
+    Ok(())
+}
+
 fn print_count<S: BallotSource>(rt: &LibcRuntime, source: &mut S, form: &str) -> io::Result<()> {
     let candidates = source.candidates();
     let ballots = source.ballots();
@@ -95,6 +138,7 @@ fn print_count<S: BallotSource>(rt: &LibcRuntime, source: &mut S, form: &str) ->
     let winner = count.winner();
     println!(rt, "{winner}")?;
     println!(rt, "winner={winner}")?;
+    print_recount(rt, source, winner)?;
     let taken = steps.len();
     println!(
         rt,

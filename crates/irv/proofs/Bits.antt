@@ -181,3 +181,10 @@ taken-out R c in′ = from-one (λ c. has R c ≡ true → (has (bitXor R (2 ^ (
     some j h =
         let e : j + 1 - 1 ≡ j = omega arith in
         rw e (turned R j j ∙ rw (eq-eqb j j refl, h) refl, same-members (with (j + 1) (bitXor R (2 ^ j))) R (same j h))
+
+-- the members of two sets together
+pub either-member : (R S : Set) (c : ℕ) → has (bitOr R S) c ≡ (has R c || has S c)
+either-member R S = from-one (λ c. has (bitOr R S) c ≡ (has R c || has S c)) (zero-in-none (bitOr R S) ∙ sym (ap (λ b. b || has S 0) (zero-in-none R) ∙ zero-in-none S)) (λ k. rw (has-digit (bitOr R S) k, has-digit R k, has-digit S k, or-bit R S k) (either (bit R k) (bit S k) (omega arith) (omega arith)))
+  where
+    either : (x y : ℕ) → x < 2 → y < 2 → eqb (max x y) 1 ≡ (eqb x 1 || eqb y 1)
+    either x y hx hy = grind (arith, tells)

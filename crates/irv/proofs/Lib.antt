@@ -4,5 +4,11 @@ pub mod Lists
 pub mod Adding
 pub mod Least
 pub mod Paths
+pub mod Comparing
+pub mod Walk
+pub mod Counted
+pub mod Searching
+pub mod Turns
+pub mod Recounts
 pub mod Unique
 pub mod Laws

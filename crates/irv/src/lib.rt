@@ -1,5 +1,6 @@
 // What instant-runoff counting means. The definitions stand in specs/, and each function here says by
 // its contract which laws of them are proved.
+ghost use Rattle.irv.specs.Endings.{SearchLaws};
 ghost use Rattle.irv.specs.Laws.{SetLaws, TallyLaws, OrderLaws};
 
 // A set of candidates is told by its members alone.
@@ -15,4 +16,9 @@ pub fn tallies_stay_within_the_ballots()
 // An order holds as many candidates as stand, and at each step somebody else stands too.
 pub fn orders_hold_every_member_once()
     ensures { λ _. ⌜ OrderLaws ⌝ }
+{}
+
+// A search for the first order that a rule does not contradict has one answer, found after one number of endings.
+pub fn searches_have_one_answer()
+    ensures { λ _. ⌜ SearchLaws ⌝ }
 {}

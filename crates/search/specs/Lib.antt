@@ -1,0 +1,5 @@
+pub mod Rules
+pub mod EndingValues
+pub mod Trials
+pub mod Searches
+pub mod Samples
