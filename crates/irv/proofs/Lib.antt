@@ -10,5 +10,7 @@ pub mod Counted
 pub mod Searching
 pub mod Turns
 pub mod Recounts
+pub mod Outdoing
+pub mod Assertions
 pub mod Unique
 pub mod Laws

@@ -6,3 +6,6 @@ pub mod Endings
 pub mod Walks
 pub mod Recounts
 pub mod Laws
+pub mod Assertions
+pub mod AssertionForms
+pub mod AssertionLaws
