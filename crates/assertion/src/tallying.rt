@@ -10,14 +10,13 @@ ghost use Rattle.std.specs.declared.option.Option.the-variants.{None};
 ghost use Rattle.irv.specs.Orders.{CountOf};
 ghost use Rattle.irv.specs.Endings.{Stands};
 ghost use Rattle.irv.specs.Assertions.{judged, value-sum, margin as margin-of};
-ghost use Rattle.ballot.specs.Values.{contest-slate};
 ghost use Rattle.assertion.specs.Causes.{Refused};
 ghost use Rattle.assertion.specs.Sums.{most-value};
 use crate::assorter::Assorter;
 use crate::tallied::Tallied;
-use ballot::contest::Contest;
 use ballot::refusal::Refusal;
 use ballot::source::BallotSource;
+use ballot::walk::contest_of;
 
 // Adds up the values of the ballots from the source's place on; from the start that is all of them.
 fn sum_rest<A: Assorter, S: BallotSource>(assertion: &A, source: &mut S) -> u64
@@ -54,16 +53,6 @@ fn passed_by(sum: u64, half: u32, ballots: u32) -> i64
 {
     let halves = half as u64 * ballots as u64;
     sum as i64 - halves as i64
-}
-
-// The contest of the source.
-fn contest_of<S: BallotSource>(source: &S) -> Contest
-    ensures { λ r. ⌜ contest-slate r ≡ contest (now (source .entry)) ⌝ }
-{
-    match Contest::new(source.candidates()) {
-        Ok(contest) => contest,
-        Err(_) => unreachable(),
-    }
 }
 
 // Adds up what the assertion is worth on all ballots of the source, whose place moves. An assertion that does

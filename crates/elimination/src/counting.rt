@@ -12,17 +12,14 @@ use crate::count_step::CountStep;
 use crate::least::least_in;
 use crate::tallying::tally_all;
 use ballot::candidate_set::CandidateSet;
-use ballot::contest::Contest;
 use ballot::source::BallotSource;
+use ballot::walk::contest_of;
 
 // Every candidate of the source's contest.
 fn everyone_in<S: BallotSource>(source: &S) -> CandidateSet
     ensures { λ r. ⌜ ((c : ℕ) → has (members r) c ≡ member (contest (now (source .entry))) c) ⌝ }
 {
-    match Contest::new(source.candidates()) {
-        Ok(contest) => contest.everyone(),
-        Err(_) => unreachable(),
-    }
+    contest_of(source).everyone()
 }
 
 // One step: who has the fewest ballots goes out of `standing`, of equals the lowest number.

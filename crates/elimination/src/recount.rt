@@ -9,9 +9,9 @@ ghost use Rattle.ballot.specs.declared.refusal.Refusal.the-variants.{WinnerNotC
 ghost use Rattle.search.specs.Searches.{Searched};
 use crate::ballots_rule::BallotsRule;
 use crate::ballots_rule::methods::BallotsRuleRule;
-use ballot::contest::Contest;
 use ballot::refusal::Refusal;
 use ballot::source::BallotSource;
+use ballot::walk::contest_of;
 use search::answer::Answer;
 use search::searching::find_survivor;
 
@@ -25,11 +25,7 @@ pub fn recount<S: BallotSource>(source: &mut S, winner: u32, limit: u64) -> Resu
     ensures same_groups { λ _. ⌜ groups (now (source .exit)) ≡ groups (now (source .entry)) ⌝ }
     ensures refused_place { λ r. ⌜ refused r (λ _. place (now (source .exit)) ≡ place (now (source .entry))) ⌝ }
 {
-    let contest = match Contest::new(source.candidates()) {
-        Ok(contest) => contest,
-        Err(_) => unreachable(),
-    };
-    if !contest.is_candidate(winner) {
+    if !contest_of(source).is_candidate(winner) {
         return Err(Refusal::WinnerNotCandidate);
     }
     let mut rule = BallotsRule { source };

@@ -8,8 +8,8 @@ use crate::count_step::shown_in;
 use crate::least::least_in;
 use crate::tallying::tally_all;
 use ballot::candidate_set::CandidateSet;
-use ballot::contest::Contest;
 use ballot::source::BallotSource;
+use ballot::walk::contest_of;
 use search::rule::Rule;
 use search::step::is_step;
 
@@ -29,11 +29,7 @@ pub impl<'s, S: BallotSource> Rule for BallotsRule<'s, S> as BallotsRuleRule {
     }
 
     fn rules_out(&mut self, standing: CandidateSet, out: u32) -> bool {
-        let contest = match Contest::new(self.source.candidates()) {
-            Ok(contest) => contest,
-            Err(_) => unreachable(),
-        };
-        if !is_step(contest, standing, out) {
+        if !is_step(contest_of(self.source), standing, out) {
             return false;
         }
         let tallies = tally_all(self.source, &standing);

@@ -7,7 +7,7 @@ use Rattle.elimination.proofs.recount.recount.Needs as need
 
 pub returns-then-not-is-candidate : need.returns-then-not-is-candidate
 returns-then-not-is-candidate g c = record {
-  answer = (ap (λ s. member s (c .args .winner)) (sym (c .in-Ok .ensures tt .1 ∙ c .candidates .ensures)) ∙ sym (c .if-not-is-candidate .ensures tt), refl);
+  answer = (ap (λ s. member s (c .args .winner)) (sym (c .contest-of .ensures)) ∙ sym (c .if-not-is-candidate .ensures tt), refl);
   laws = recount-laws;
   same-contest = refl;
   same-groups = refl;

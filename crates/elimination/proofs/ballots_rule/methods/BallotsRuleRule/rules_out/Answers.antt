@@ -13,7 +13,7 @@ returns g c =
     let source = c .args .self .now .source .now in
     let told = c .tally-all-tallies .ensures in
     let R = members (c .args .standing) in
-    let step : is-step (m .contest source) R (c .args .out) ≡ true = ap (λ s. is-step s R (c .args .out)) (sym (c .in-Ok .ensures tt .1 ∙ c .candidates .ensures)) ∙ sym (c .if-not-is-step .ensures tt) in
+    let step : is-step (m .contest source) R (c .args .out) ≡ true = ap (λ s. is-step s R (c .args .out)) (sym (c .contest-of .ensures)) ∙ sym (c .if-not-is-step .ensures tt) in
     record {
       value =
           ap (λ x. ltb x (c .shown-in-2 .result)) (c .shown-in .ensures) ∙ ap (ltb (shown (c .tally-all-tallies .result) (c .least-in-least .result))) (c .shown-in-2 .ensures)
