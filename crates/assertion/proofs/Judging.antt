@@ -1,19 +1,18 @@
 -- What a ranking says of two candidates and who of a set is foreign, number by number; and the judgement of a set's members.
-use mathlib.Core.Path.{_≡_, refl, sym, ap, _∙_}
+use mathlib.Core.Path.{_≡_, refl, ap, _∙_}
 use mathlib.Core.Logic.{⊎-elim}
-use mathlib.Core.Bool.{Bool, true, false, not, _&&_, _||_, cond}
-use mathlib.Core.List.{List, [], _∷_}
+use mathlib.Core.Bool.{Bool, true, false, not, _&&_, cond}
+use mathlib.Core.List.{List, _∷_}
 use Prim.Native.Nat.{ℕ, suc, _+_, _-_, _≤_, _<_}
 use native.Mathlib.Omega.{arith}
-use lib.Dec.{eqb, leb}
+use lib.Dec.{leb}
 use lib.ListN.{length, getD, drop}
 use Rattle.std.proofs.shelf.Lists.{at-drop-more}
 use Rattle.std.proofs.shelf.Tests.{eq-eqb, ne-eqb, and-parts, and-cases, not-true, not-false, leb-true}
-use Rattle.std.specs.declared.option.Option.{Option}
 use Rattle.std.specs.declared.option.Option.the-variants.{None, Some}
 use Rattle.irv.specs.Sets.{Set, has}
 use Rattle.irv.specs.Ballots.{Slate, member, mem}
-use Rattle.irv.specs.Assertions.{Written, nen, Cause, foreign, same, lacks-winner, lacks-loser, ahead, foreign-in, unascending-in, judged, members-from, members-of}
+use Rattle.irv.specs.Assertions.{nen, Cause, foreign, same, lacks-winner, lacks-loser, ahead, foreign-in, unascending-in, judged, members-from, members-of}
 use Rattle.irv.proofs.Assertions.{members-are, mem-members, ascending}
 
 -- l is ranked, and w is not ahead of it

@@ -1,10 +1,10 @@
 -- The values of the ballots, group by group: the sum after one more group, and that it stays small.
-use mathlib.Core.Path.{_≡_, sym, ap, subst, _∙_}
+use mathlib.Core.Path.{_≡_, ap, _∙_}
 use mathlib.Core.List.{List, [], _∷_}
-use Prim.Native.Nat.{ℕ, _+_, _-_, _*_, _≤_, _<_}
-use native.Mathlib.Nat.{mul-le-mul-right, mul-add}
+use Prim.Native.Nat.{ℕ, _+_, _*_, _≤_}
+use native.Mathlib.Nat.{mul-le-mul-right}
 use native.Mathlib.Omega.{arith}
-use lib.ListN.{length, drop}
+use lib.ListN.{drop}
 use Rattle.std.proofs.shelf.Sums.{sumBy-cons}
 use Rattle.irv.specs.Ballots.{Slate, BallotGroup, ballots, most-ballots, Fits}
 use Rattle.irv.specs.Assertions.{value-sum}

@@ -1,6 +1,5 @@
 -- What a `Cause` stands for, and the refusal that it leads to.
 use mathlib.Core.Path.{_≡_}
-use Prim.Native.Nat.{ℕ}
 use Rattle.std.specs.declared.option.Option.{Option}
 use Rattle.std.specs.declared.option.Option.the-variants.{None, Some}
 use Rattle.irv.specs.Assertions as irv

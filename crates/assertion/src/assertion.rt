@@ -1,5 +1,4 @@
 // An assertion of any kind.
-ghost use mathlib.Core.Path.{_≡_};
 ghost use Rattle.assertion.specs.Kinds.{written-kind, value-kind, top-kind, half-kind, rules-kind};
 use crate::assorter::Assorter;
 use crate::cause::Cause;

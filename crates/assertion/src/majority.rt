@@ -1,5 +1,4 @@
 // MAJ: the winner is first on more than `part` in `whole` of the ballots that rank anybody.
-ghost use mathlib.Core.Path.{_≡_};
 ghost use Rattle.irv.specs.Assertions.{maj, maj-value, maj-rules};
 use crate::assorter::Assorter;
 use crate::cause::Cause;

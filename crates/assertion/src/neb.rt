@@ -1,5 +1,4 @@
 // NEB: the winner never goes out before the loser.
-ghost use mathlib.Core.Path.{_≡_};
 ghost use Rattle.irv.specs.Assertions.{neb, neb-value, neb-rules};
 use crate::assorter::Assorter;
 use crate::cause::Cause;

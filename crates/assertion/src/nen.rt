@@ -1,5 +1,4 @@
 // NEN: the winner has more ballots than the loser while a set stands.
-ghost use mathlib.Core.Path.{_≡_};
 ghost use Rattle.irv.specs.Assertions.{nen, nen-value, nen-rules, members-of};
 ghost use Rattle.ballot.specs.Sets.{members};
 use crate::assorter::Assorter;

@@ -4,21 +4,19 @@ use mathlib.Core.Logic.{⊎-elim}
 use mathlib.Core.Bool.{Bool, true, false, not, _&&_, _||_, cond}
 use mathlib.Core.List.{List, [], _∷_, map}
 use Prim.Native.Nat.{ℕ, zero, suc, _+_, _*_, _^_, _≤_, _<_}
-use native.Mathlib.Nat.{mul-le-mul-right}
 use native.Mathlib.Omega.{arith}
 use lib.Dec.{eqb, leb, ltb}
 use lib.IntN.{pos, _-ℤ_}
 use Rattle.std.proofs.shelf.Signed.{ints}
 use Rattle.std.proofs.shelf.Sums.{sumBy-cons}
-use Rattle.std.proofs.shelf.Tests.{cases-bool, cases-lt, eqb-true, eqb-false, eq-eqb, ne-eqb, leb-true, ltb-true, lt-ltb, and-parts, and-from, and-right, not-true, both-ways, or-left, or-right, or-cases, or-from, cases-eq}
+use Rattle.std.proofs.shelf.Tests.{cases-lt, eqb-true, eqb-false, ne-eqb, leb-true, ltb-true, lt-ltb, and-parts, and-from, not-true, both-ways, or-left, or-cases, or-from, cases-eq}
 use Rattle.std.specs.declared.option.Option.{Option}
 use Rattle.std.specs.declared.option.Option.the-variants.{None, Some}
 use Rattle.std.specs.shelf.Lists.{sumBy, All}
 use Rattle.irv.specs.Sets.{Set, has, set-of}
 use Rattle.irv.specs.Ballots.{Slate, member, mem, BallotGroup, ballots, Fits, owner, is-owned, belongs, worth, tally}
-use Rattle.irv.specs.Orders.{EachStep, CountOf}
-use Rattle.irv.specs.Endings.{Ruling, Stands, Alternative, elected}
-use Rattle.irv.specs.Laws.{WithAnother}
+use Rattle.irv.specs.Orders.{CountOf}
+use Rattle.irv.specs.Endings.{Stands, Alternative, elected}
 use Rattle.irv.specs.Assertions.{Written, neb, nen, maj, Cause, ranked-first, ahead, neb-value, nen-value, maj-value, neb-rules, nen-rules, maj-rules, value-of, half-of, rules-of, value-sum, margin, AllHold, rules-any, ContradictedBy, foreign-in, unascending-in, unless, fraction-fits, first-of, judged, members-from, members-of}
 use Rattle.irv.specs.AssertionLaws.{SoundAssorter, SoundWritten, AllFine, AssertionLaws}
 use Rattle.irv.proofs.Bits.{zero-in-none, listed, same-members, none-above}
@@ -224,7 +222,7 @@ pub maj-law : (s : Slate) (w a b : ℕ) → SoundWritten s (maj w a b)
 maj-law s w a b h = maj-sound s w a b (maj-judged s w a b h)
 
 -- a list of assertions
-kind-law : (s : Slate) (a : Written) → SoundWritten s a
+pub kind-law : (s : Slate) (a : Written) → SoundWritten s a
 kind-law s (neb w l) = neb-law s w l
 kind-law s (nen w l set) = nen-law s w l set
 kind-law s (maj w a b) = maj-law s w a b
@@ -234,17 +232,17 @@ none-ruled [] = tt
 none-ruled (c ∷ []) = tt
 none-ruled (c ∷ d ∷ e) = (refl, none-ruled (d ∷ e))
 
-count-stands : (s : Slate) (gs : List BallotGroup) (xs : List Written) → Fits s gs → All (λ a. judged s a ≡ None) xs → AllHold s gs (map (λ a. (value-of a, half-of a)) xs) → (o : List ℕ) → CountOf s gs o → Stands (rules-any (map rules-of xs)) o
+pub count-stands : (s : Slate) (gs : List BallotGroup) (xs : List Written) → Fits s gs → All (λ a. judged s a ≡ None) xs → AllHold s gs (map (λ a. (value-of a, half-of a)) xs) → (o : List ℕ) → CountOf s gs o → Stands (rules-any (map rules-of xs)) o
 count-stands s gs [] fit fine hold o count = none-ruled o
 count-stands s gs (a ∷ xs) fit fine hold o count =
     each-step (λ R c. rules-of a R c ≡ false) (λ R c. rules-any (map rules-of xs) R c ≡ false) (λ R c. (rules-of a R c || rules-any (map rules-of xs) R c) ≡ false)
     (λ R c one rest. or-from (rules-of a R c) (rules-any (map rules-of xs) R c) one rest)
     o (kind-law s a (fine .0) .rightly gs fit (hold .0) o count) (count-stands s gs xs fit (fine .1) (hold .1) o count)
 
-none-contradicted : (s : Slate) (gs : List BallotGroup) (xs : List Written) → Fits s gs → AllFine s gs xs → (o : List ℕ) → CountOf s gs o → ContradictedBy (map rules-of xs) o → ⊥
+pub none-contradicted : (s : Slate) (gs : List BallotGroup) (xs : List Written) → Fits s gs → AllFine s gs xs → (o : List ℕ) → CountOf s gs o → ContradictedBy (map rules-of xs) o → ⊥
 none-contradicted s gs xs fit fine o count against = against (count-stands s gs xs fit (fine .fit) (fine .hold) o count)
 
-winner-elected : (s : Slate) (gs : List BallotGroup) (xs : List Written) (winner : ℕ) → Fits s gs → AllFine s gs xs → ((p : List ℕ) → Alternative s winner p → ContradictedBy (map rules-of xs) p) → (o : List ℕ) → CountOf s gs o → elected o ≡ winner
+pub winner-elected : (s : Slate) (gs : List BallotGroup) (xs : List Written) (winner : ℕ) → Fits s gs → AllFine s gs xs → ((p : List ℕ) → Alternative s winner p → ContradictedBy (map rules-of xs) p) → (o : List ℕ) → CountOf s gs o → elected o ≡ winner
 winner-elected s gs xs winner fit fine others o count =
     ⊎-elim (λ same. same) (λ another. absurd (none-contradicted s gs xs fit fine o count (others o (record { order = count .order; another = another })))) (cases-eq (elected o) winner)
 
@@ -268,7 +266,7 @@ nen-sum s (g ∷ gs) w l R apart =
       nen-sum s gs w l R apart,
     )
 
-nen-margin : (s : Slate) (gs : List BallotGroup) (w l : ℕ) (R : Set) → (w ≡ l → ⊥) → margin (nen-value w l R) 1 s gs ≡ pos (tally s gs R w) -ℤ pos (tally s gs R l)
+pub nen-margin : (s : Slate) (gs : List BallotGroup) (w l : ℕ) (R : Set) → (w ≡ l → ⊥) → margin (nen-value w l R) 1 s gs ≡ pos (tally s gs R w) -ℤ pos (tally s gs R l)
 unfolding tally
 nen-margin s gs w l R apart = omega (arith, ints, nen-sum s gs w l R apart)
 
@@ -328,7 +326,7 @@ pub members-are : (R : Set) → members-of R ≡ members-from R 1 16
 unfolding members-of
 members-are R = refl
 
-members-make-set : (R : Set) → R < 2 ^ 16 → set-of (members-of R) ≡ R
+pub members-make-set : (R : Set) → R < 2 ^ 16 → set-of (members-of R) ≡ R
 unfolding members-of
 members-make-set R small = same-members (set-of (members-of R)) R same
   where

@@ -1,13 +1,11 @@
 -- An assertion that holds keeps from going out whoever is outdone by its values on every ballot.
-use mathlib.Core.Path.{_≡_, refl, sym, ap, subst, _∙_}
+use mathlib.Core.Path.{_≡_, ap}
 use mathlib.Core.Logic.{⊎-elim}
-use mathlib.Core.Bool.{Bool, true, false, _&&_, cond}
+use mathlib.Core.Bool.{Bool, true, false, cond}
 use mathlib.Core.List.{List, [], _∷_}
 use Prim.Native.Nat.{ℕ, _+_, _*_, _≤_, _<_}
 use native.Mathlib.Nat.{mul-add, add-mul, mul-le-mul-right, mul-le-mul-left}
 use native.Mathlib.Omega.{arith}
-use lib.IntN.{pos, _-ℤ_}
-use lib.Signed.{_<ℤ_}
 use Rattle.std.proofs.shelf.Signed.{ints}
 use Rattle.std.proofs.shelf.Sums.{sumBy-cons}
 use Rattle.std.proofs.shelf.Tests.{cases-bool, cases-lt}
@@ -17,7 +15,7 @@ use Rattle.irv.specs.Ballots.{Slate, BallotGroup, ballots, belongs, worth, tal
 use Rattle.irv.specs.Orders.{EachStep, Fewest, CountOf}
 use Rattle.irv.specs.Endings.{Ruling, Stands}
 use Rattle.irv.specs.Laws.{WithAnother}
-use Rattle.irv.specs.Assertions.{value-sum, margin, Holds}
+use Rattle.irv.specs.Assertions.{value-sum, Holds}
 use Rattle.irv.proofs.Lists.{steps-stand}
 
 -- on each ballot the value passes the half by at most what it gives to c and takes from x

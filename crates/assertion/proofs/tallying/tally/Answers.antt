@@ -1,8 +1,8 @@
 -- No cause was found, so that the law of the assertion bounds the sum and makes its margin right.
 use mathlib.Core.Path.{_≡_, sym, ap, subst, _∙_}
-use Prim.Native.Nat.{ℕ, _*_, _≤_}
+use Prim.Native.Nat.{_*_, _≤_}
 use native.Mathlib.Omega.{arith}
-use lib.IntN.{pos, _-ℤ_}
+use lib.IntN.{pos}
 use lib.Signed.{_<ℤ_}
 use mir.Syntax.{w64}
 use mir.Val.{toZ, ofZ}

@@ -16,6 +16,6 @@ returns-then-not-is-candidate g c = record {
 
 pub returns : need.returns
 returns g c =
-    let k = c .in-Ok-find-survivor .ensures tt .same-rest in
+    let k = c .in-Ok .ensures tt .same-rest in
     let lender = sym (k .lender) in
-    record { answer = c .in-Ok-find-survivor .ensures tt .answer; laws = recount-laws; same-contest = let same = k .contest-same in search needs; same-groups = let same = k .groups-same in search needs; refused-place = tt }
+    record { answer = c .in-Ok .ensures tt .answer; laws = recount-laws; same-contest = let same = k .contest-same in search needs; same-groups = let same = k .groups-same in search needs; refused-place = tt }
