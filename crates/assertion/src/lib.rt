@@ -1,4 +1,6 @@
 // Assertions: what each kind is worth on a ballot, and tallying one over the ballots of any source.
+#![tactic(auto)]
+
 pub mod assertion;
 pub mod assorter;
 pub mod cause;

@@ -1,5 +1,7 @@
 // What it means to work a dossier: its records, its stages and what a check says. The definitions of the calls, of the
 // page and of a history stand in specs/, and the function here says by its contract which laws of them are proved.
+#![tactic(auto)]
+
 ghost use Rattle.audit.specs.Laws.{EveryHistory};
 
 pub mod records;

@@ -1,4 +1,6 @@
 // Ballots: contests, sets of candidates, rankings, groups, and the sources that hand groups out.
+#![tactic(auto)]
+
 pub mod candidate_set;
 pub mod contest;
 pub mod group;

@@ -1,4 +1,6 @@
 // Lines of ballots: a line is read off the front of a text, and its group judged by a contest.
+#![tactic(auto)]
+
 mod field;
 mod judge;
 mod line;

@@ -1,4 +1,6 @@
 // Texts of ballots as ballot sources: rows text and groups text.
+#![tactic(auto)]
+
 mod fault;
 mod groups_text;
 mod lines;

@@ -1,5 +1,7 @@
 // count_ballots CANDIDATES rows|groups: counts the ballots on standard input once, step by step, and says whether any
 // other count of them elects another.
+#![tactic(auto)]
+
 use ballot::source::BallotSource;
 use ballot::walk::groups_in;
 use ballot_line::TextForm;

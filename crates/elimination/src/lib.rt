@@ -1,4 +1,6 @@
 // Elimination: one count of the ballots of any source, and the recount.
+#![tactic(auto)]
+
 mod ballots_rule;
 pub mod count;
 pub mod count_step;

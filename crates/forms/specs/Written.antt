@@ -1,7 +1,6 @@
 -- How numbers, identifiers, rankings and lines are written.
 use Rattle.std.specs.Prelude.{◌≡◌, ℕ, ◌+◌, ◌^◌, ◌<◌, ◌≤◌, Bool, true, ◌&&◌, ◌||◌, List, [], ◌∷◌, ◌++◌, length, decimal, ◌==◌, nat_le}
 use Rattle.std.specs.List.{flat_map, AllByRecursion}
-use Rattle.irv.specs.AssertionForms.{numbers_by}
 use Rattle.irv.specs.Ballots.{BallotGroup}
 
 -- the bytes of the formats: - , ; and the end of a line
@@ -35,7 +34,8 @@ pub record IsIdentifier (bs : List ℕ) : Type 0 where
 
 -- the first number plain, each further one behind the byte d
 abbrev pub written_numbers : ℕ → List ℕ → List ℕ
-written_numbers = numbers_by
+written_numbers d [] = []
+written_numbers d (v ∷ vs) = decimal v ++ flat_map (λ w. d ∷ decimal w) vs
 
 -- a blank ballot is written as a hyphen
 abbrev pub written_ranking : List ℕ → List ℕ

@@ -164,7 +164,7 @@ maj_sound s w a b fits = record {
         )
 
 -- what it means that no cause is found
-pub none_of : {X : Type 0} (x : Option X) (xs : List (Option X)) → first_of (x ∷ xs) ≡ None → (x ≡ None) × (first_of xs ≡ None)
+pub none_of : (x : Option Cause) (xs : List (Option Cause)) → first_of (x ∷ xs) ≡ None → (x ≡ None) × (first_of xs ≡ None)
 none_of None xs h = (refl, h)
 none_of (Some c) xs h = let z : ◌≡◌ {A = ℕ} 0 1 = cc in absurd (omega arith)
 

@@ -115,7 +115,7 @@ abbrev pub fraction_fits : ℕ → ℕ → Bool
 fraction_fits a b = nat_le 2 b && (nat_le b 1000 && (nat_lt a b && nat_le b (2 * a)))
 
 -- the first that there is
-abbrev pub first_of : {X : Type 0} → List (Option X) → Option X
+abbrev pub first_of : List (Option Cause) → Option Cause
 first_of [] = None
 first_of (None ∷ xs) = first_of xs
 first_of (Some x ∷ xs) = Some x

@@ -1,5 +1,7 @@
 // What instant-runoff counting means. The definitions stand in specs/, and each function here says by
 // its contract which laws of them are proved.
+#![tactic(auto)]
+
 ghost use Rattle.irv.specs.AssertionLaws.{AssertionLaws};
 ghost use Rattle.irv.specs.Endings.{SearchLaws};
 ghost use Rattle.irv.specs.Laws.{SetLaws, TallyLaws, OrderLaws};

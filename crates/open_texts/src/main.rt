@@ -1,5 +1,7 @@
 // Opens the text of each case on standard input, and prints what was opened or why it was refused.
 // A case is a line CANDIDATES rows|groups TEXT, where \n in the text stands for the end of a line.
+#![tactic(auto)]
+
 use ballot::source::BallotSource;
 use ballot::walk::groups_in;
 use ballot_line::TextForm;

@@ -1,4 +1,6 @@
 // The page of a plan: how its bytes are written into anything that takes bytes, and the figures that it shows.
+#![tactic(auto)]
+
 pub mod assertion_line;
 pub mod figures;
 pub mod page_buffer;

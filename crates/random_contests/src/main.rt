@@ -1,4 +1,6 @@
 // Contests from a fixed seed: the counter and the recount against all orders, tried one by one.
+#![tactic(auto)]
+
 mod brute;
 mod random;
 

@@ -1,4 +1,6 @@
 // The search for the first order that a rule does not contradict.
+#![tactic(auto)]
+
 pub mod answer;
 pub mod ending;
 pub mod rule;

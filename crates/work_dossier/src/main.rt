@@ -1,5 +1,7 @@
 // Works a dossier through its stages on the ballots of standard input, groups text of 6 candidates, and prints each
 // call with its reply: ways to a plan that are refused, and the one that leads to the page.
+#![tactic(auto)]
+
 use anyhow::anyhow;
 use assertion::assertion::Assertion;
 use assertion::majority::Majority;
