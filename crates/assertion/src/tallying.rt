@@ -14,10 +14,10 @@ use ballot::walk::contest_of;
 
 // Adds up the values of the ballots from the source's place on; from the start that is all of them.
 fn sum_rest<A: Assorter, S: BallotSource>(assertion: &A, source: &mut S) -> u64
-    requires { judged (contest source.old) (written assertion.now) ≡ None }
-    ensures same_contest { contest source.new ≡ contest source.old }
-    ensures same_groups { groups source.new ≡ groups source.old }
-    ensures sum { place source.old ≡ 0 → result ≡ value_sum (value assertion.now) (contest source.old) (groups source.old) }
+    requires { judged (S.contest source.old) (A.written assertion.now) ≡ None }
+    ensures same_contest { S.contest source.new ≡ S.contest source.old }
+    ensures same_groups { S.groups source.new ≡ S.groups source.old }
+    ensures sum { S.place source.old ≡ 0 → result ≡ value_sum (A.value assertion.now) (S.contest source.old) (S.groups source.old) }
     ensures small { result ≤ most_value }
 {
     let mut sum: u64 = 0;
@@ -30,10 +30,10 @@ fn sum_rest<A: Assorter, S: BallotSource>(assertion: &A, source: &mut S) -> u64
 
 // The values of all ballots. The source's place moves.
 fn sum_all<A: Assorter, S: BallotSource>(assertion: &A, source: &mut S) -> u64
-    requires { judged (contest source.old) (written assertion.now) ≡ None }
-    ensures same_contest { contest source.new ≡ contest source.old }
-    ensures same_groups { groups source.new ≡ groups source.old }
-    ensures sum { result ≡ value_sum (value assertion.now) (contest source.old) (groups source.old) }
+    requires { judged (S.contest source.old) (A.written assertion.now) ≡ None }
+    ensures same_contest { S.contest source.new ≡ S.contest source.old }
+    ensures same_groups { S.groups source.new ≡ S.groups source.old }
+    ensures sum { result ≡ value_sum (A.value assertion.now) (S.contest source.old) (S.groups source.old) }
     ensures small { result ≤ most_value }
 {
     source.rewind();
@@ -56,10 +56,10 @@ pub fn tally<A: Assorter, S: BallotSource>(
     assertion: &A,
     source: &mut S,
 ) -> Result<Tallied, Refusal>
-    ensures same_contest { contest source.new ≡ contest source.old }
-    ensures same_groups { groups source.new ≡ groups source.old }
-    ensures outcome { MatchResult result (λ t. (judged (contest source.old) (written assertion.now) ≡ None) × ((t.sum ≡ value_sum (value assertion.now) (contest source.old) (groups source.old)) × (t.margin ≡ margin-of (value assertion.now) (half assertion.now) (contest source.old) (groups source.old)))) (λ e. Refused (judged (contest source.old) (written assertion.now)) e × (source.new ≡ source.old)) }
-    ensures rightly { IfOk result (λ t. pos 0 <ℤ t.margin → (o : List ℕ) → CountOf (contest source.old) (groups source.old) o → Stands (rules assertion.now) o) }
+    ensures same_contest { S.contest source.new ≡ S.contest source.old }
+    ensures same_groups { S.groups source.new ≡ S.groups source.old }
+    ensures outcome { MatchResult result (λ t. (judged (S.contest source.old) (A.written assertion.now) ≡ None) × ((t.sum ≡ value_sum (A.value assertion.now) (S.contest source.old) (S.groups source.old)) × (t.margin ≡ margin-of (A.value assertion.now) (A.half assertion.now) (S.contest source.old) (S.groups source.old)))) (λ e. Refused (judged (S.contest source.old) (A.written assertion.now)) e × (source.new ≡ source.old)) }
+    ensures rightly { IfOk result (λ t. pos 0 <ℤ t.margin → (o : List ℕ) → CountOf (S.contest source.old) (S.groups source.old) o → Stands (A.rules assertion.now) o) }
 {
     let contest = contest_of(source);
     if let Some(cause) = assertion.judge(contest) {

@@ -7,7 +7,7 @@ use crate::source::BallotSource;
 
 // The contest of the source.
 pub fn contest_of<S: BallotSource>(source: &S) -> Contest
-    ensures { contest_slate result ≡ contest source.now }
+    ensures { contest_slate result ≡ S.contest source.now }
 {
     match Contest::new(source.candidates()) {
         Ok(contest) => contest,
@@ -17,10 +17,10 @@ pub fn contest_of<S: BallotSource>(source: &S) -> Contest
 
 // How many groups the source has. Its place is left at the end.
 pub fn groups_in<S: BallotSource>(source: &mut S) -> u32
-    ensures value { result ≡ length (groups source.old) }
-    ensures same_contest { contest source.new ≡ contest source.old }
-    ensures same_groups { groups source.new ≡ groups source.old }
-    ensures end { place source.new ≡ length (groups source.old) }
+    ensures value { result ≡ length (S.groups source.old) }
+    ensures same_contest { S.contest source.new ≡ S.contest source.old }
+    ensures same_groups { S.groups source.new ≡ S.groups source.old }
+    ensures end { S.place source.new ≡ length (S.groups source.old) }
 {
     source.rewind();
     let mut groups = 0;

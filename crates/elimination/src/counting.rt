@@ -15,16 +15,16 @@ use ballot::walk::contest_of;
 
 // Every candidate of the source's contest.
 fn everyone_in<S: BallotSource>(source: &S) -> CandidateSet
-    ensures { (c : ℕ) → has (members result) c ≡ member (contest source.now) c }
+    ensures { (c : ℕ) → has (members result) c ≡ member (S.contest source.now) c }
 {
     contest_of(source).everyone()
 }
 
 // One step: who has the fewest ballots goes out of `standing`, of equals the lowest number.
 fn one_step<S: BallotSource>(source: &mut S, standing: &mut CandidateSet) -> CountStep
-    ensures same_contest { contest source.new ≡ contest source.old }
-    ensures same_groups { groups source.new ≡ groups source.old }
-    ensures step { StepIfAny (contest source.old) (groups source.old) (members standing.old) result (members standing.new) }
+    ensures same_contest { S.contest source.new ≡ S.contest source.old }
+    ensures same_groups { S.groups source.new ≡ S.groups source.old }
+    ensures step { StepIfAny (S.contest source.old) (S.groups source.old) (members standing.old) result (members standing.new) }
 {
     let tallies = tally_all(source, standing);
     let out = least_in(standing, &tallies);
@@ -42,11 +42,11 @@ struct Eliminated {
 
 // Takes one step after the other until one candidate is left, who completes the count as its winner.
 fn eliminate<S: BallotSource>(source: &mut S) -> Eliminated
-    ensures same_contest { contest source.new ≡ contest source.old }
-    ensures same_groups { groups source.new ≡ groups source.old }
+    ensures same_contest { S.contest source.new ≡ S.contest source.old }
+    ensures same_groups { S.groups source.new ≡ S.groups source.old }
     ensures room { result.len ≤ 15 }
     ensures left { Somebody (members result.left) }
-    ensures count { (w : ℕ) → has (members result.left) w ≡ true → OneCount (contest source.old) (groups source.old) (take result.len result.steps) w }
+    ensures count { (w : ℕ) → has (members result.left) w ≡ true → OneCount (S.contest source.old) (S.groups source.old) (take result.len result.steps) w }
 {
     let mut left = everyone_in(source);
     let nobody = CountStep {
@@ -64,9 +64,9 @@ fn eliminate<S: BallotSource>(source: &mut S) -> Eliminated
 // Counts the ballots: step by step the one with the fewest goes out, of equals the one with the lowest
 // number, until one is left. The source's place moves, and nothing else of it.
 pub fn count_ballots<S: BallotSource>(source: &mut S) -> Count
-    ensures same_contest { contest source.new ≡ contest source.old }
-    ensures same_groups { groups source.new ≡ groups source.old }
-    ensures count { OneCount (contest source.old) (groups source.old) (steps_of result) result.winner }
+    ensures same_contest { S.contest source.new ≡ S.contest source.old }
+    ensures same_groups { S.groups source.new ≡ S.groups source.old }
+    ensures count { OneCount (S.contest source.old) (S.groups source.old) (steps_of result) result.winner }
 {
     let all = eliminate(source);
     // One is left, who has the least in any table.

@@ -16,11 +16,11 @@ use search::searching::find_survivor;
 // written backwards, or none, which says that every count elects the winner, ties broken in any manner. Stopped where
 // more than `limit` endings would be tried. Where the winner is no candidate, the source is left as it was.
 pub fn recount<S: BallotSource>(source: &mut S, winner: u32, limit: u64) -> Result<Answer, Refusal>
-    ensures answer { MatchResult result (λ a. (member (contest source.old) winner ≡ true) × Searched (contest source.old) (ballots_ruling (contest source.old) (groups source.old)) winner limit a) (λ e. (member (contest source.old) winner ≡ false) × (e ≡ WinnerNotCandidate)) }
+    ensures answer { MatchResult result (λ a. (member (S.contest source.old) winner ≡ true) × Searched (S.contest source.old) (ballots_ruling (S.contest source.old) (S.groups source.old)) winner limit a) (λ e. (member (S.contest source.old) winner ≡ false) × (e ≡ WinnerNotCandidate)) }
     ensures laws { RecountLaws }
-    ensures same_contest { contest source.new ≡ contest source.old }
-    ensures same_groups { groups source.new ≡ groups source.old }
-    ensures refused_place { OnErr result (place source.new ≡ place source.old) }
+    ensures same_contest { S.contest source.new ≡ S.contest source.old }
+    ensures same_groups { S.groups source.new ≡ S.groups source.old }
+    ensures refused_place { OnErr result (S.place source.new ≡ S.place source.old) }
 {
     if !contest_of(source).is_candidate(winner) {
         return Err(Refusal::WinnerNotCandidate);

@@ -9,9 +9,9 @@ use ballot::source::BallotSource;
 // Adds up the groups from the source's place on. From the start that is how many ballots belong to each
 // candidate while `standing` stands.
 fn tally_rest<S: BallotSource>(source: &mut S, standing: &CandidateSet) -> [u32; 16]
-    ensures same_contest { contest source.new ≡ contest source.old }
-    ensures same_groups { groups source.new ≡ groups source.old }
-    ensures tallies { place source.old ≡ 0 → Shows (contest source.old) (groups source.old) (members standing.now) result }
+    ensures same_contest { S.contest source.new ≡ S.contest source.old }
+    ensures same_groups { S.groups source.new ≡ S.groups source.old }
+    ensures tallies { S.place source.old ≡ 0 → Shows (S.contest source.old) (S.groups source.old) (members standing.now) result }
 {
     let mut tallies = [0; 16];
     while let Some(group) = source.next() {
@@ -24,9 +24,9 @@ fn tally_rest<S: BallotSource>(source: &mut S, standing: &CandidateSet) -> [u32;
 
 // How many ballots belong to each candidate while `standing` stands. The source's place moves.
 pub(crate) fn tally_all<S: BallotSource>(source: &mut S, standing: &CandidateSet) -> [u32; 16]
-    ensures same_contest { contest source.new ≡ contest source.old }
-    ensures same_groups { groups source.new ≡ groups source.old }
-    ensures tallies { Shows (contest source.old) (groups source.old) (members standing.now) result }
+    ensures same_contest { S.contest source.new ≡ S.contest source.old }
+    ensures same_groups { S.groups source.new ≡ S.groups source.old }
+    ensures tallies { Shows (S.contest source.old) (S.groups source.old) (members standing.now) result }
 {
     source.rewind();
     tally_rest(source, standing)

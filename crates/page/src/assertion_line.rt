@@ -13,7 +13,7 @@ use ballot::candidate_set::CandidateSet;
 
 // Puts a number, behind the byte `mark` where it is not the first.
 fn write_further<S: Sink>(sink: &mut S, mark: u8, is_first: bool, number: u32)
-    ensures { took sink.old (further mark is_first number) sink.new }
+    ensures { S.took sink.old (further mark is_first number) sink.new }
 {
     if !is_first {
         sink.put(mark);
@@ -23,7 +23,7 @@ fn write_further<S: Sink>(sink: &mut S, mark: u8, is_first: bool, number: u32)
 
 // Puts the numbers with commas between them.
 fn write_numbers<S: Sink>(sink: &mut S, numbers: &[u32])
-    ensures { took sink.old (numbers_by 44 numbers.now) sink.new }
+    ensures { S.took sink.old (numbers_by 44 numbers.now) sink.new }
 {
     let mut is_first = true;
     for number in numbers {
@@ -34,7 +34,7 @@ fn write_numbers<S: Sink>(sink: &mut S, numbers: &[u32])
 
 // Puts the members of a set, ascending, with plus signs between them.
 fn write_members<S: Sink>(sink: &mut S, set: &CandidateSet)
-    ensures { took sink.old (numbers_by 43 (members_of (members set.now))) sink.new }
+    ensures { S.took sink.old (numbers_by 43 (members_of (members set.now))) sink.new }
 {
     let mut is_first = true;
     for candidate in 1..17 {
@@ -47,7 +47,7 @@ fn write_members<S: Sink>(sink: &mut S, set: &CandidateSet)
 
 // Puts an assertion as it is written.
 fn write_assertion<S: Sink>(sink: &mut S, assertion: &Assertion)
-    ensures { took sink.old (assertion_bytes (written_kind assertion.now)) sink.new }
+    ensures { S.took sink.old (assertion_bytes (written_kind assertion.now)) sink.new }
 {
     match assertion {
         Assertion::Neb(a) => {
@@ -69,7 +69,7 @@ fn write_assertion<S: Sink>(sink: &mut S, assertion: &Assertion)
 
 // Puts the line of an assertion under its number.
 pub fn assertion_line<S: Sink>(sink: &mut S, number: u32, assertion: &Assertion)
-    ensures { took sink.old (assertion_line (record { number = number; assertion = assertion.now })) sink.new }
+    ensures { S.took sink.old (assertion_line (record { number = number; assertion = assertion.now })) sink.new }
 {
     write_bytes(sink, b"assertion=");
     write_number(sink, u64::from(number));

@@ -6,7 +6,7 @@ use crate::sink::Sink;
 
 // Puts the bytes as they stand.
 pub fn write_bytes<S: Sink>(sink: &mut S, bytes: &[u8])
-    ensures { took sink.old bytes.now sink.new }
+    ensures { S.took sink.old bytes.now sink.new }
 {
     for byte in bytes {
         sink.put(*byte);
@@ -15,7 +15,7 @@ pub fn write_bytes<S: Sink>(sink: &mut S, bytes: &[u8])
 
 // Puts the digits of a number, from the front.
 pub fn write_number<S: Sink>(sink: &mut S, number: u64)
-    ensures { took sink.old (decimal number) sink.new }
+    ensures { S.took sink.old (decimal number) sink.new }
 {
     if number >= 10 {
         write_number(sink, number / 10);
@@ -25,7 +25,7 @@ pub fn write_number<S: Sink>(sink: &mut S, number: u64)
 
 // Puts a line key=value; the key has its equals sign.
 pub fn number_line<S: Sink>(sink: &mut S, key: &[u8], number: u64)
-    ensures { took sink.old (number_line key.now number) sink.new }
+    ensures { S.took sink.old (number_line key.now number) sink.new }
 {
     write_bytes(sink, key);
     write_number(sink, number);

@@ -21,11 +21,11 @@ fn search_below<R: Rule>(
     ending: Ending,
     tried: u64,
 ) -> Answer
-    requires { length (listing ending) < (contest rule.old).candidates }
-    ensures leads { run_of result ≡ run_below (ruling rule.old) winner (contest rule.old).candidates limit (listing ending) tried }
-    ensures same_contest { contest rule.new ≡ contest rule.old }
-    ensures same_ruling { ruling rule.new ≡ ruling rule.old }
-    ensures same_rest { kept rule.old rule.new }
+    requires { length (listing ending) < (R.contest rule.old).candidates }
+    ensures leads { run_of result ≡ run_below (R.ruling rule.old) winner (R.contest rule.old).candidates limit (listing ending) tried }
+    ensures same_contest { R.contest rule.new ≡ R.contest rule.old }
+    ensures same_ruling { R.ruling rule.new ≡ R.ruling rule.old }
+    ensures same_rest { R.kept rule.old rule.new }
 {
     let last = rule.candidates();
     let mut count = tried;
@@ -47,7 +47,7 @@ fn search_below<R: Rule>(
 
 // Whether `candidate` stands in the rule's contest.
 fn is_candidate<R: Rule>(rule: &R, candidate: u32) -> bool
-    ensures { result ≡ member (contest rule.now) candidate }
+    ensures { result ≡ member (R.contest rule.now) candidate }
 {
     1 <= candidate && candidate <= rule.candidates()
 }
@@ -56,11 +56,11 @@ fn is_candidate<R: Rule>(rule: &R, candidate: u32) -> bool
 // contradict, or that there is none, and how many endings were tried for it; stopped where those would be more than
 // `limit`. Whoever is no candidate is refused as the winner.
 pub fn find_survivor<R: Rule>(rule: &mut R, winner: u32, limit: u64) -> Result<Answer, Refusal>
-    ensures answer { MatchResult result (λ a. (member (contest rule.old) winner ≡ true) × Searched (contest rule.old) (ruling rule.old) winner limit a) (λ e. (member (contest rule.old) winner ≡ false) × (e ≡ WinnerNotCandidate)) }
+    ensures answer { MatchResult result (λ a. (member (R.contest rule.old) winner ≡ true) × Searched (R.contest rule.old) (R.ruling rule.old) winner limit a) (λ e. (member (R.contest rule.old) winner ≡ false) × (e ≡ WinnerNotCandidate)) }
     ensures laws { SearchLaws }
-    ensures same_contest { contest rule.new ≡ contest rule.old }
-    ensures same_ruling { ruling rule.new ≡ ruling rule.old }
-    ensures same_rest { kept rule.old rule.new }
+    ensures same_contest { R.contest rule.new ≡ R.contest rule.old }
+    ensures same_ruling { R.ruling rule.new ≡ R.ruling rule.old }
+    ensures same_rest { R.kept rule.old rule.new }
 {
     if !is_candidate(rule, winner) {
         return Err(Refusal::WinnerNotCandidate);

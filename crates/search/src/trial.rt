@@ -21,10 +21,10 @@ pub(crate) enum Trial {
 
 // Whether the ending, whose newest member is `newest`, is kept from going on.
 fn is_blocked<R: Rule>(rule: &mut R, ending: &Ending, newest: u32) -> bool
-    ensures value { result ≡ blocked (ruling rule.old) (set_of (listing ending.now)) newest }
-    ensures same_contest { contest rule.new ≡ contest rule.old }
-    ensures same_ruling { ruling rule.new ≡ ruling rule.old }
-    ensures same_rest { kept rule.old rule.new }
+    ensures value { result ≡ blocked (R.ruling rule.old) (set_of (listing ending.now)) newest }
+    ensures same_contest { R.contest rule.new ≡ R.contest rule.old }
+    ensures same_ruling { R.ruling rule.new ≡ R.ruling rule.old }
+    ensures same_rest { R.kept rule.old rule.new }
 {
     rule.rules_out(ending.members(), newest)
 }
@@ -38,12 +38,12 @@ pub(crate) fn try_with<R: Rule>(
     candidate: u32,
     tried: u64,
 ) -> Trial
-    requires ending_len_bound { length (listing ending) < (contest rule.old).candidates }
-    requires le_candidate { (1 ≤ candidate) × (candidate ≤ (contest rule.old).candidates) }
-    ensures trial { TrialOf (contest rule.old) (ruling rule.old) winner limit tried (listing ending) candidate result }
-    ensures same_contest { contest rule.new ≡ contest rule.old }
-    ensures same_ruling { ruling rule.new ≡ ruling rule.old }
-    ensures same_rest { kept rule.old rule.new }
+    requires ending_len_bound { length (listing ending) < (R.contest rule.old).candidates }
+    requires le_candidate { (1 ≤ candidate) × (candidate ≤ (R.contest rule.old).candidates) }
+    ensures trial { TrialOf (R.contest rule.old) (R.ruling rule.old) winner limit tried (listing ending) candidate result }
+    ensures same_contest { R.contest rule.new ≡ R.contest rule.old }
+    ensures same_ruling { R.ruling rule.new ≡ R.ruling rule.old }
+    ensures same_rest { R.kept rule.old rule.new }
 {
     if !ending.may_grow_by(winner, candidate) {
         return Trial::NotTried;

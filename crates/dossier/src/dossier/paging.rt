@@ -54,7 +54,7 @@ impl Dossier {
     // Writes the four lines of the record at this place, if it is live.
     fn write_record<S: Sink>(&self, place: usize, sink: &mut S)
         requires { place < vec_len self.now.records }
-        ensures { took sink.old (flat_map (line_bytes self.now.factor self.now.ballots) (lines_at place self.now)) sink.new }
+        ensures { S.took sink.old (flat_map (line_bytes self.now.factor self.now.ballots) (lines_at place self.now)) sink.new }
     {
         let entered = &self.records[place];
         if !entered.live {
@@ -71,7 +71,7 @@ impl Dossier {
 
     // Writes the lines of every live record, in the order of their numbers.
     fn write_records<S: Sink>(&self, sink: &mut S)
-        ensures { took sink.old (flat_map (line_bytes self.now.factor self.now.ballots) (lines_from 1 self.now.records.items)) sink.new }
+        ensures { S.took sink.old (flat_map (line_bytes self.now.factor self.now.ballots) (lines_from 1 self.now.records.items)) sink.new }
     {
         for place in 0..self.records.len() {
             self.write_record(place, sink);
@@ -80,7 +80,7 @@ impl Dossier {
 
     // Writes the whole page.
     pub(crate) fn write_page<S: Sink>(&self, sink: &mut S)
-        ensures { took sink.old (page_shown self.now) sink.new }
+        ensures { S.took sink.old (page_shown self.now) sink.new }
     {
         number_line(sink, b"winner=", u64::from(self.winner));
         number_line(sink, b"ballots=", u64::from(self.ballots));

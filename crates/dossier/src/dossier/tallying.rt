@@ -88,10 +88,10 @@ impl Dossier {
 
     // Takes up the margins of the live records on all ballots of the source, whose place is left at its end.
     fn tally_all<S: BallotSource>(&mut self, source: &mut S)
-        requires { contest source.old ≡ slate self.old.contest.candidates }
-        ensures after { state self.new ≡ on_groups (groups source.old) (state self.old) }
-        ensures same_contest { contest source.new ≡ contest source.old }
-        ensures same_groups { groups source.new ≡ groups source.old }
+        requires { S.contest source.old ≡ slate self.old.contest.candidates }
+        ensures after { state self.new ≡ on_groups (S.groups source.old) (state self.old) }
+        ensures same_contest { S.contest source.new ≡ S.contest source.old }
+        ensures same_groups { S.groups source.new ≡ S.groups source.old }
     {
         self.clear_margins();
         source.rewind();
@@ -104,9 +104,9 @@ impl Dossier {
     // in place of those of an earlier tally. The source's place moves. A source of another number of candidates is
     // refused and stays as it was.
     pub fn tally<S: BallotSource>(&mut self, source: &mut S) -> Result<(), Refusal>
-        ensures answer { Answers (tallies (contest source.old) (groups source.old)) (state self.old) result (state self.new) }
-        ensures same_contest { contest source.new ≡ contest source.old }
-        ensures same_groups { groups source.new ≡ groups source.old }
+        ensures answer { Answers (tallies (S.contest source.old) (S.groups source.old)) (state self.old) result (state self.new) }
+        ensures same_contest { S.contest source.new ≡ S.contest source.old }
+        ensures same_groups { S.groups source.new ≡ S.groups source.old }
         ensures refused_source { OnErr result (source.new ≡ source.old) }
     {
         if source.candidates() != self.contest.candidates() {

@@ -9,13 +9,13 @@ use Rattle.assertion.proofs.reading.foreign_member.Goals as goal
 pub loop-candidate-init : goal.loop-candidate-init
 loop-candidate-init c = ap (foreign_in (contest_slate c.args.contest)) (members_are (members c.args.set))
 
-pub returns-then-is-foreign : goal.returns-then-is-foreign
-returns-then-is-foreign c =
-    sym (c.loop-candidate.invariant ∙ foreign_here (contest_slate c.args.contest) (members c.args.set) c.loop-candidate.candidate c.loop-candidate-test.true (sym c.if-is-foreign.ensures))
+pub returns-then-is_foreign : goal.returns-then-is_foreign
+returns-then-is_foreign c =
+    sym (c.loop-candidate.invariant ∙ foreign_here (contest_slate c.args.contest) (members c.args.set) c.loop-candidate.candidate c.loop-candidate-test.true (sym c.if-is_foreign.ensures))
 
 pub loop-candidate-preserved : goal.loop-candidate-preserved
 loop-candidate-preserved c =
-    c.loop-candidate.invariant ∙ foreign_past (contest_slate c.args.contest) (members c.args.set) c.loop-candidate.candidate c.loop-candidate-test.true (sym c.if-is-foreign.ensures)
+    c.loop-candidate.invariant ∙ foreign_past (contest_slate c.args.contest) (members c.args.set) c.loop-candidate.candidate c.loop-candidate-test.true (sym c.if-is_foreign.ensures)
 
 pub returns : goal.returns
 returns c =

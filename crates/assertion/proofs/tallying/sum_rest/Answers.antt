@@ -41,17 +41,17 @@ small g a src fine =
     let values : (r : List ℕ) → g.A.Assorter.value a r ≤ 1000 = λ r. omega (arith, law.within r, law.small) in
     sum_fits (g.A.Assorter.value a) (g.S.BallotSource.contest src) values (g.S.BallotSource.groups src) (g.S.BallotSource.place src) (g.S.BallotSource.sound src).fit
 
-pub overflow-add-sum : goal.overflow-add-sum
-overflow-add-sum g c = omega (arith, next_sum g c, small g c.args.assertion.now c.args.source.now c.requires)
+pub overflow_add-sum : goal.overflow_add-sum
+overflow_add-sum g c = omega (arith, next_sum g c, small g c.args.assertion.now c.args.source.now c.requires)
 
 pub loop-group-preserved : goal.loop-group-preserved
 loop-group-preserved g c =
     let v = g.A.Assorter.value c.args.assertion.now in
     let s = g.S.BallotSource.contest c.args.source.now in
     let gs = g.S.BallotSource.groups c.args.source.now in (
-      c.in-Some.ensures.same-contest ∙ c.loop-group.invariant.0,
+      c.in-Some.ensures.same_contest ∙ c.loop-group.invariant.0,
       (
-        c.in-Some.ensures.same-groups ∙ c.loop-group.invariant.1.0,
+        c.in-Some.ensures.same_groups ∙ c.loop-group.invariant.1.0,
         subst (λ q. c.loop-group.sum + c.value.result * c.count.result + value_sum v s (drop q gs) ≡ value_sum v s (drop (g.S.BallotSource.place c.args.source.now) gs)) (sym c.in-Some.ensures.cases.1.1) (next_sum g c),
       ),
     )
@@ -72,13 +72,13 @@ returns g c =
     let s = g.S.BallotSource.contest c.args.source.now in
     let gs = g.S.BallotSource.groups c.args.source.now in
     let p = g.S.BallotSource.place c.loop-group.source in
-    let last : (length (g.S.BallotSource.groups c.loop-group.source) ≤ p) × (g.S.BallotSource.place c.next.new.self ≡ p) = c.in-default.ensures.cases in
+    let last : (length (g.S.BallotSource.groups c.loop-group.source) ≤ p) × (g.S.BallotSource.place c.next.new.self ≡ p) = c.in_default.ensures.cases in
     let end : length gs ≤ p = omega (arith, last, ap length c.loop-group.invariant.1.0) in
     let none : value_sum v s (drop p gs) ≡ 0 = ap (value_sum v s) (drop_all p gs end) in
     let whole : c.loop-group.sum ≡ value_sum v s (drop (g.S.BallotSource.place c.args.source.now) gs) = omega (arith, none, c.loop-group.invariant.1.1) in
     record {
-      same-contest = c.in-default.ensures.same-contest ∙ c.loop-group.invariant.0;
-      same-groups = c.in-default.ensures.same-groups ∙ c.loop-group.invariant.1.0;
+      same_contest = c.in_default.ensures.same_contest ∙ c.loop-group.invariant.0;
+      same_groups = c.in_default.ensures.same_groups ∙ c.loop-group.invariant.1.0;
       sum = λ start. whole ∙ ap (λ q. value_sum v s (drop q gs)) start;
       small = omega (arith, whole, small g c.args.assertion.now c.args.source.now c.requires);
     }

@@ -10,28 +10,28 @@ use Rattle.assertion.proofs.tallying.tally.Goals as goal
 fine : (s t : Slate) (a : Written) → t ≡ s → None ≡ judged t a → judged s a ≡ None
 fine s t a same none = ap (λ u. judged u a) (sym same) ∙ sym none
 
-pub passed-by-margin-requires : goal.passed-by-margin-requires
-passed-by-margin-requires g c =
+pub passed_by-margin-requires : goal.passed_by-margin-requires
+passed_by-margin-requires g c =
     let s = g.S.BallotSource.contest c.args.source.now in
-    let law = g.met.A.Assorter.sound c.args.assertion.now s (fine s _ (g.A.Assorter.written c.args.assertion.now) c.contest-of-contest.ensures c.in-default.ensures) in
+    let law = g.met.A.Assorter.sound c.args.assertion.now s (fine s _ (g.A.Assorter.written c.args.assertion.now) c.contest_of-contest.ensures c.in_default.ensures) in
     let low : c.half.result ≤ 1000 = omega (arith, c.half.ensures, law.half_within, law.small) in
-    let few : c.ballots.result ≤ most_ballots = omega (arith, c.ballots.ensures ∙ ap ballots c.sum-all-sum.ensures.same-groups, (g.S.BallotSource.sound c.args.source.now).fit.sum) in
-    (c.sum-all-sum.ensures.small, halves_fit c.half.result c.ballots.result low few)
+    let few : c.ballots.result ≤ most_ballots = omega (arith, c.ballots.ensures ∙ ap ballots c.sum_all-sum.ensures.same_groups, (g.S.BallotSource.sound c.args.source.now).fit.sum) in
+    (c.sum_all-sum.ensures.small, halves_fit c.half.result c.ballots.result low few)
 
-halves : (g : given.Over) (c : goal.After-passed-by-margin g) → c.half.result * c.ballots.result ≡ g.A.Assorter.half c.args.assertion.now * ballots (g.S.BallotSource.groups c.args.source.now)
+halves : (g : given.Over) (c : goal.After-passed_by-margin g) → c.half.result * c.ballots.result ≡ g.A.Assorter.half c.args.assertion.now * ballots (g.S.BallotSource.groups c.args.source.now)
 halves g c =
-    ap (λ h. h * c.ballots.result) c.half.ensures ∙ ap (λ n. g.A.Assorter.half c.args.assertion.now * n) (c.ballots.ensures ∙ ap ballots c.sum-all-sum.ensures.same-groups)
+    ap (λ h. h * c.ballots.result) c.half.ensures ∙ ap (λ n. g.A.Assorter.half c.args.assertion.now * n) (c.ballots.ensures ∙ ap ballots c.sum_all-sum.ensures.same_groups)
 
-exact : (g : given.Over) (c : goal.After-passed-by-margin g) → to_z w64 (of_z w64 c.passed-by-margin.result) ≡ margin (g.A.Assorter.value c.args.assertion.now) (g.A.Assorter.half c.args.assertion.now) (g.S.BallotSource.contest c.args.source.now) (g.S.BallotSource.groups c.args.source.now)
-exact g c = omega (arith, ints, c.passed-by-margin.type-inv, c.passed-by-margin.ensures, c.sum-all-sum.ensures.sum, halves g c)
+exact : (g : given.Over) (c : goal.After-passed_by-margin g) → to_z w64 (of_z w64 c.passed_by-margin.result) ≡ margin (g.A.Assorter.value c.args.assertion.now) (g.A.Assorter.half c.args.assertion.now) (g.S.BallotSource.contest c.args.source.now) (g.S.BallotSource.groups c.args.source.now)
+exact g c = omega (arith, ints, c.passed_by-margin.type-inv, c.passed_by-margin.ensures, c.sum_all-sum.ensures.sum, halves g c)
 
 pub returns : goal.returns
 returns g c =
     let s = g.S.BallotSource.contest c.args.source.now in
-    let fits : judged s (g.A.Assorter.written c.args.assertion.now) ≡ None = fine s _ (g.A.Assorter.written c.args.assertion.now) c.contest-of-contest.ensures c.in-default.ensures in
+    let fits : judged s (g.A.Assorter.written c.args.assertion.now) ≡ None = fine s _ (g.A.Assorter.written c.args.assertion.now) c.contest_of-contest.ensures c.in_default.ensures in
     record {
-      same-contest = c.sum-all-sum.ensures.same-contest;
-      same-groups = c.sum-all-sum.ensures.same-groups;
-      outcome = (fits, (c.sum-all-sum.ensures.sum, exact g c));
+      same_contest = c.sum_all-sum.ensures.same_contest;
+      same_groups = c.sum_all-sum.ensures.same_groups;
+      outcome = (fits, (c.sum_all-sum.ensures.sum, exact g c));
       rightly = λ holds. (g.met.A.Assorter.sound c.args.assertion.now s fits).rightly (g.S.BallotSource.groups c.args.source.now) (g.S.BallotSource.sound c.args.source.now).fit (subst (λ m. pos 0 <ℤ m) (exact g c) holds);
     }

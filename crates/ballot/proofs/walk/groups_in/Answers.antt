@@ -2,8 +2,8 @@ use Rattle.std.proofs.Common.{arith}
 use Rattle.irv.proofs.Tallies.{groups_le}
 use Rattle.ballot.proofs.walk.groups_in.Goals as goal
 
-pub overflow-add-groups : goal.overflow-add-groups
-overflow-add-groups g c =
+pub overflow_add-groups : goal.overflow_add-groups
+overflow_add-groups g c =
     let m = g.S.BallotSource in
     let source = c.loop-groups.source in
     let sound = m.sound source in

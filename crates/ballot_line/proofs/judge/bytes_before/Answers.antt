@@ -8,11 +8,11 @@ few_digits c =
     let fits = c.type-inv.numbers c.loop-i.i in
     omega (arith, c.digits.ensures, ten_digits (get_or c.args.numbers.now c.loop-i.i 0) (omega arith))
 
-pub overflow-add-bytes : goal.overflow-add-bytes
-overflow-add-bytes c = omega (arith, few_digits c)
+pub overflow_add-bytes : goal.overflow_add-bytes
+overflow_add-bytes c = omega (arith, few_digits c)
 
-pub overflow-add-bytes-in-loop-i : goal.overflow-add-bytes-in-loop-i
-overflow-add-bytes-in-loop-i c = omega (arith, few_digits c, c.loop-i.invariant.1, c.requires.0, c.requires.1, c.loop-i-test.true)
+pub overflow_add-bytes-in-loop-i : goal.overflow_add-bytes-in-loop-i
+overflow_add-bytes-in-loop-i c = omega (arith, few_digits c, c.loop-i.invariant.1, c.requires.0, c.requires.1, c.loop-i-test.true)
 
 pub loop-i-preserved : goal.loop-i-preserved
 loop-i-preserved c =

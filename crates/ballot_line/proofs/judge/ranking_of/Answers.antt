@@ -15,5 +15,5 @@ returns-in-Some c =
       right = told.1.0;
       fault = told.1.1;
       cause = refl;
-      byte = omega (arith, c.bytes-before.ensures.value);
+      byte = omega (arith, c.bytes_before.ensures.value);
     }

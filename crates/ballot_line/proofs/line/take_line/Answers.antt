@@ -4,32 +4,32 @@ use Rattle.std.proofs.lemmas.Result.{err_from_is_err_and}
 use Rattle.ballot_line.proofs.Parts.{line_headless, line_unmarked, line_unranked, ranking_fits, line_fits, line_read}
 use Rattle.ballot_line.proofs.line.take_line.Goals as goal
 
-pub returns-in-err-head : goal.returns-in-err-head
-returns-in-err-head c =
+pub returns-in_err-head : goal.returns-in_err-head
+returns-in_err-head c =
     let p = err_from_is_err_and c.from-residual.result c.from-residual.ensures.1 in
-    rw (p.1, p.2) (line_headless _ _ _ c.in-err-head.ensures)
+    rw (p.1, p.2) (line_headless _ _ _ c.in_err-head.ensures)
 
-pub returns-in-err-behind : goal.returns-in-err-behind
-returns-in-err-behind c =
-    let p = err_from_is_err_and c.from-residual-in-err-behind.result c.from-residual-in-err-behind.ensures.1 in
-    let h = c.in-err-behind.ensures in
-    rw (p.1, p.2) (line_unmarked _ _ _ _ _ _ c.in-ok-head.ensures h.0 h.1)
+pub returns-in_err-behind : goal.returns-in_err-behind
+returns-in_err-behind c =
+    let p = err_from_is_err_and c.from-residual-in_err-behind.result c.from-residual-in_err-behind.ensures.1 in
+    let h = c.in_err-behind.ensures in
+    rw (p.1, p.2) (line_unmarked _ _ _ _ _ _ c.in_ok-head.ensures h.0 h.1)
 
-pub returns-in-err-row : goal.returns-in-err-row
-returns-in-err-row c =
-    let p = err_from_is_err_and c.from-residual-in-err-row.result c.from-residual-in-err-row.ensures.1 in
-    rw (p.1, p.2) (line_unranked _ _ _ _ _ _ _ c.in-ok-head.ensures c.in-ok-behind.ensures c.in-err-row.ensures)
+pub returns-in_err-row : goal.returns-in_err-row
+returns-in_err-row c =
+    let p = err_from_is_err_and c.from-residual-in_err-row.result c.from-residual-in_err-row.ensures.1 in
+    rw (p.1, p.2) (line_unranked _ _ _ _ _ _ _ c.in_ok-head.ensures c.in_ok-behind.ensures c.in_err-row.ensures)
 
-pub overflow-sub-len : goal.overflow-sub-len
-overflow-sub-len c = omega (arith, ranking_fits _ _ _ _ c.in-ok-row.ensures)
+pub overflow_sub-len : goal.overflow_sub-len
+overflow_sub-len c = omega (arith, ranking_fits _ _ _ _ c.in_ok-row.ensures)
 
-pub overflow-sub-len-2 : goal.overflow-sub-len-2
-overflow-sub-len-2 c = omega (arith, ranking_fits _ _ _ _ c.in-ok-row.ensures)
+pub overflow_sub-len-2 : goal.overflow_sub-len-2
+overflow_sub-len-2 c = omega (arith, ranking_fits _ _ _ _ c.in_ok-row.ensures)
 
-pub overflow-sub-result : goal.overflow-sub-result
-overflow-sub-result c =
-    omega (arith, ranking_fits _ _ _ _ c.in-ok-row.ensures, line_fits _ _ _ _ _ _ c.in-ok-head.ensures c.in-ok-behind.ensures)
+pub overflow_sub-result : goal.overflow_sub-result
+overflow_sub-result c =
+    omega (arith, ranking_fits _ _ _ _ c.in_ok-row.ensures, line_fits _ _ _ _ _ _ c.in_ok-head.ensures c.in_ok-behind.ensures)
 
 pub returns : goal.returns
 returns c =
-    line_read _ _ _ _ _ _ c.in-ok-head.ensures c.in-ok-behind.ensures c.in-ok-row.ensures tt (ap (λ n. take n c.in-ok-behind.behind.now) (sub-zero _)) refl
+    line_read _ _ _ _ _ _ c.in_ok-head.ensures c.in_ok-behind.ensures c.in_ok-row.ensures tt (ap (λ n. take n c.in_ok-behind.behind.now) (sub-zero _)) refl

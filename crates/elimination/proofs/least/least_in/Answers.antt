@@ -12,7 +12,7 @@ pub loop-candidate-preserved : goal.loop-candidate-preserved
 loop-candidate-preserved c =
     let R = members c.args.standing.now in
     let f = shown c.args.tallies.now in
-    subst (LeastBelow R f (c.loop-candidate.candidate + 1)) (sym c.less-of-best.ensures) (least_more R f c.loop-candidate.candidate c.loop-candidate.best c.loop-candidate.auto.candidate c.loop-candidate.invariant)
+    subst (LeastBelow R f (c.loop-candidate.candidate + 1)) (sym c.less_of-best.ensures) (least_more R f c.loop-candidate.candidate c.loop-candidate.best c.loop-candidate.auto.candidate c.loop-candidate.invariant)
 
 pub returns : goal.returns
 returns c =

@@ -21,33 +21,33 @@ here : (g : given.Over) (c : goal.After-count g) → drop (g.S.BallotSource.plac
 here g c =
     moved (g.S.BallotSource.groups c.loop-group.source) (g.S.BallotSource.groups c.args.source.now) (g.S.BallotSource.place c.loop-group.source) (group_value c.in-Some.group) c.loop-group.invariant.1.0 c.in-Some.ensures.cases.0
 
-here_rest : (g : given.Over) (c : goal.In-default-first-in g) → drop (g.S.BallotSource.place c.loop-group.source) (g.S.BallotSource.groups c.args.source.now) ≡ group_value c.in-Some.group ∷ drop (g.S.BallotSource.place c.loop-group.source + 1) (g.S.BallotSource.groups c.args.source.now)
+here_rest : (g : given.Over) (c : goal.In_default-first_in g) → drop (g.S.BallotSource.place c.loop-group.source) (g.S.BallotSource.groups c.args.source.now) ≡ group_value c.in-Some.group ∷ drop (g.S.BallotSource.place c.loop-group.source + 1) (g.S.BallotSource.groups c.args.source.now)
 here_rest g c =
     moved (g.S.BallotSource.groups c.loop-group.source) (g.S.BallotSource.groups c.args.source.now) (g.S.BallotSource.place c.loop-group.source) (group_value c.in-Some.group) c.loop-group.invariant.1.0 c.in-Some.ensures.cases.0
 
-owns : (g : given.Over) (c : goal.After-count g) → owner (members c.args.standing.now) (ranked c.in-Some.group.ranking) ≡ Some c.in-Some-first-in.owner
-owns g c = sym (c.in-Some-first-in.ensures ∙ ap (λ k. owner (members c.args.standing.now) (ranked k)) c.ranking.ensures)
+owns : (g : given.Over) (c : goal.After-count g) → owner (members c.args.standing.now) (ranked c.in-Some.group.ranking) ≡ Some c.in-Some-first_in.owner
+owns g c = sym (c.in-Some-first_in.ensures ∙ ap (λ k. owner (members c.args.standing.now) (ranked k)) c.ranking.ensures)
 
-bounds : (g : given.Over) (c : goal.After-count g) → (1 ≤ c.in-Some-first-in.owner) × (c.in-Some-first-in.owner ≤ 16)
+bounds : (g : given.Over) (c : goal.After-count g) → (1 ≤ c.in-Some-first_in.owner) × (c.in-Some-first_in.owner ≤ 16)
 bounds g c =
-    owner_bounds (slate c.in-Some.group.ranking.candidates) (members c.args.standing.now) (ranked c.in-Some.group.ranking) c.in-Some-first-in.owner c.in-Some.group.ranking.proper.1 c.in-Some.group.ranking.fits (owns g c)
+    owner_bounds (slate c.in-Some.group.ranking.candidates) (members c.args.standing.now) (ranked c.in-Some.group.ranking) c.in-Some-first_in.owner c.in-Some.group.ranking.proper.1 c.in-Some.group.ranking.fits (owns g c)
 
-pub overflow-sub-tallies : goal.overflow-sub-tallies
-overflow-sub-tallies g c = (bounds g c).0
+pub overflow_sub-tallies : goal.overflow_sub-tallies
+overflow_sub-tallies g c = (bounds g c).0
 
 pub bounds-tallies-owner : goal.bounds-tallies-owner
 bounds-tallies-owner g c = omega (arith, bounds g c)
 
-pub bounds-tallies-owner-in-Some-first-in : goal.bounds-tallies-owner-in-Some-first-in
-bounds-tallies-owner-in-Some-first-in g c = omega (arith, bounds g c)
+pub bounds-tallies-owner-in-Some-first_in : goal.bounds-tallies-owner-in-Some-first_in
+bounds-tallies-owner-in-Some-first_in g c = omega (arith, bounds g c)
 
-pub overflow-add-tallies : goal.overflow-add-tallies
-overflow-add-tallies g c =
+pub overflow_add-tallies : goal.overflow_add-tallies
+overflow_add-tallies g c =
     let s = g.S.BallotSource.contest c.args.source.now in
     let gs = g.S.BallotSource.groups c.args.source.now in
     let from = g.S.BallotSource.place c.args.source.now in
     let p = g.S.BallotSource.place c.loop-group.source in
-    let x = c.in-Some-first-in.owner in
+    let x = c.in-Some-first_in.owner in
     let sum : get_or c.loop-group.tallies (x - 1) 0 + c.in-Some.group.count ≤ most_ballots =
     sum_within_from s gs from (get_or c.loop-group.tallies (x - 1) 0 + c.in-Some.group.count) (g.S.BallotSource.sound c.args.source.now).fit
     (sum_within s (drop from gs) (members c.args.standing.now) (drop p gs) (group_value c.in-Some.group) (drop (p + 1) gs) (here g c) c.loop-group.tallies c.loop-group.invariant.1.1.1 x (owns g c) (bounds g c).0 (bounds g c).1) in
@@ -57,8 +57,8 @@ overflow-add-tallies g c =
 less : (n p q : ℕ) → p < n → q ≡ p + 1 → n - q < n - p
 less n p q within e = omega arith
 
-pub loop-group-smaller-in-Some-first-in : goal.loop-group-smaller-in-Some-first-in
-loop-group-smaller-in-Some-first-in g c =
+pub loop-group-smaller-in-Some-first_in : goal.loop-group-smaller-in-Some-first_in
+loop-group-smaller-in-Some-first_in g c =
     let gs = g.S.BallotSource.groups c.args.source.now in
     let p = g.S.BallotSource.place c.loop-group.source in
     less (length gs) p (g.S.BallotSource.place c.next.new.self) (next_within gs p (group_value c.in-Some.group) (drop (p + 1) gs) (here g c)) c.in-Some.ensures.cases.1.1
@@ -69,20 +69,20 @@ loop-group-smaller g c =
     let p = g.S.BallotSource.place c.loop-group.source in
     less (length gs) p (g.S.BallotSource.place c.next.new.self) (next_within gs p (group_value c.in-Some.group) (drop (p + 1) gs) (here_rest g c)) c.in-Some.ensures.cases.1.1
 
-pub loop-group-preserved-in-Some-first-in : goal.loop-group-preserved-in-Some-first-in
-loop-group-preserved-in-Some-first-in g c =
+pub loop-group-preserved-in-Some-first_in : goal.loop-group-preserved-in-Some-first_in
+loop-group-preserved-in-Some-first_in g c =
     let s = g.S.BallotSource.contest c.args.source.now in
     let gs = g.S.BallotSource.groups c.args.source.now in
     let whole = drop (g.S.BallotSource.place c.args.source.now) gs in
     let p = g.S.BallotSource.place c.loop-group.source in
-    let x = c.in-Some-first-in.owner in
+    let x = c.in-Some-first_in.owner in
     let R = members c.args.standing.now in
     let ts = c.loop-group.tallies in
     let more : Remains s whole R (drop (p + 1) gs) (set ts (x - 1) (get_or ts (x - 1) 0 + c.in-Some.group.count)) =
     less_remains s whole R (drop p gs) (group_value c.in-Some.group) (drop (p + 1) gs) (here g c) ts c.loop-group.invariant.1.1.1 x (owns g c) (bounds g c).0 (bounds g c).1 c.loop-group.invariant.1.1.0 in (
-      c.in-Some.ensures.same-contest ∙ c.loop-group.invariant.0,
+      c.in-Some.ensures.same_contest ∙ c.loop-group.invariant.0,
       (
-        c.in-Some.ensures.same-groups ∙ c.loop-group.invariant.1.0,
+        c.in-Some.ensures.same_groups ∙ c.loop-group.invariant.1.0,
         (
           length-set ts (x - 1) (get_or ts (x - 1) 0 + c.count.result) ∙ c.loop-group.invariant.1.1.0,
           subst (λ q. Remains s whole R (drop q gs) (set ts (x - 1) (get_or ts (x - 1) 0 + c.count.result))) (sym c.in-Some.ensures.cases.1.1)
@@ -98,10 +98,10 @@ loop-group-preserved g c =
     let whole = drop (g.S.BallotSource.place c.args.source.now) gs in
     let p = g.S.BallotSource.place c.loop-group.source in
     let R = members c.args.standing.now in
-    let none : owner R (ranked c.in-Some.group.ranking) ≡ None = sym (c.in-default-first-in.ensures ∙ ap (λ k. owner R (ranked k)) c.ranking.ensures) in (
-      c.in-Some.ensures.same-contest ∙ c.loop-group.invariant.0,
+    let none : owner R (ranked c.in-Some.group.ranking) ≡ None = sym (c.in_default-first_in.ensures ∙ ap (λ k. owner R (ranked k)) c.ranking.ensures) in (
+      c.in-Some.ensures.same_contest ∙ c.loop-group.invariant.0,
       (
-        c.in-Some.ensures.same-groups ∙ c.loop-group.invariant.1.0,
+        c.in-Some.ensures.same_groups ∙ c.loop-group.invariant.1.0,
         (
           c.loop-group.invariant.1.1.0,
           subst (λ q. Remains s whole R (drop q gs) c.loop-group.tallies) (sym c.in-Some.ensures.cases.1.1)
@@ -116,10 +116,10 @@ returns g c =
     let gs = g.S.BallotSource.groups c.args.source.now in
     let whole = drop (g.S.BallotSource.place c.args.source.now) gs in
     let p = g.S.BallotSource.place c.loop-group.source in
-    let last : (length (g.S.BallotSource.groups c.loop-group.source) ≤ p) × (g.S.BallotSource.place c.next.new.self ≡ p) = c.in-default.ensures.cases in
+    let last : (length (g.S.BallotSource.groups c.loop-group.source) ≤ p) × (g.S.BallotSource.place c.next.new.self ≡ p) = c.in_default.ensures.cases in
     let end : length gs ≤ p = omega (arith, last, ap length c.loop-group.invariant.1.0) in
     record {
-      same-contest = c.in-default.ensures.same-contest ∙ c.loop-group.invariant.0;
-      same-groups = c.in-default.ensures.same-groups ∙ c.loop-group.invariant.1.0;
+      same_contest = c.in_default.ensures.same_contest ∙ c.loop-group.invariant.0;
+      same_groups = c.in_default.ensures.same_groups ∙ c.loop-group.invariant.1.0;
       tallies = λ start. subst (λ q. Shows s (drop q gs) (members c.args.standing.now) c.loop-group.tallies) start (none_remains s whole (members c.args.standing.now) (drop p gs) c.loop-group.tallies (drop_all p gs end) c.loop-group.invariant.1.1.1);
     }

@@ -9,8 +9,8 @@ use Rattle.ballot.proofs.contest.Contest.first_unfit.Goals as goal
 pub loop-i-init : goal.loop-i-init
 loop-i-init c = ranked_none (contest_slate c.args.self.now) (members c.new-seen.result) c.new-seen.ensures
 
-pub returns-then-not-is-candidate : goal.returns-then-not-is-candidate
-returns-then-not-is-candidate c = (c.loop-i-test.true, (c.loop-i.invariant.ranking, inl (sym c.if-not-is-candidate.ensures)))
+pub returns-then-not-is_candidate : goal.returns-then-not-is_candidate
+returns-then-not-is_candidate c = (c.loop-i-test.true, (c.loop-i.invariant.ranking, inl (sym c.if-not-is_candidate.ensures)))
 
 pub returns-then-has : goal.returns-then-has
 returns-then-has c =
@@ -18,7 +18,7 @@ returns-then-has c =
 
 pub loop-i-preserved : goal.loop-i-preserved
 loop-i-preserved c =
-    ranked_more (contest_slate c.args.self.now) c.args.self.now.proper.1 (members c.loop-i.seen) c.args.candidates.now c.loop-i.i c.loop-i-test.true c.loop-i.invariant (members c.insert.new.self) c.insert.result (sym c.if-not-is-candidate.ensures) (sym c.if-has.ensures) c.insert.ensures.value c.insert.ensures.after
+    ranked_more (contest_slate c.args.self.now) c.args.self.now.proper.1 (members c.loop-i.seen) c.args.candidates.now c.loop-i.i c.loop-i-test.true c.loop-i.invariant (members c.insert.new.self) c.insert.result (sym c.if-not-is_candidate.ensures) (sym c.if-has.ensures) c.insert.ensures.value c.insert.ensures.after
 
 pub returns : goal.returns
 returns c = subst (λ l. ranks (contest_slate c.args.self.now) l ≡ true) (take_all c.loop-i.i c.args.candidates.now c.loop-i-test.false) c.loop-i.invariant.ranking

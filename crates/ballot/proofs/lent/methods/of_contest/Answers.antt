@@ -8,12 +8,12 @@ use Rattle.ballot.proofs.lent.methods.of_contest.Goals.{Then-candidates, Else-ca
 pub returns-then-candidates : goal.returns-then-candidates
 returns-then-candidates c =
     let other : c.group-item.result.ranking.candidates ≡ c.args.contest.candidates → ⊥ = λ same. c.if-candidates.true (ap (λ s. s.candidates) c.candidates.ensures ∙ ap (λ r. r.candidates) c.ranking.ensures ∙ same ∙ sym (ap (λ s. s.candidates) c.candidates-in-loop-group.ensures.value)) in
-    sym (c.loop-group.invariant ∙ contest_failed c.args.contest.candidates c.args.groups.now c.loop-group.group_index c.group-item.result c.loop-group-test.true c.group-item.is other)
+    sym (c.loop-group.invariant ∙ contest_failed c.args.contest.candidates c.args.groups.now c.loop-group.group-index c.group-item.result c.loop-group-test.true c.group-item.is other)
 
 pub loop-group-preserved : goal.loop-group-preserved
 loop-group-preserved c =
     let same : c.group-item.result.ranking.candidates ≡ c.args.contest.candidates = sym (ap (λ r. r.candidates) c.ranking.ensures) ∙ sym (ap (λ s. s.candidates) c.candidates.ensures) ∙ c.if-candidates.false ∙ ap (λ s. s.candidates) c.candidates-in-loop-group.ensures.value in
-    c.loop-group.invariant ∙ contest_passed c.args.contest.candidates c.args.groups.now c.loop-group.group_index c.group-item.result c.loop-group-test.true c.group-item.is same
+    c.loop-group.invariant ∙ contest_passed c.args.contest.candidates c.args.groups.now c.loop-group.group-index c.group-item.result c.loop-group-test.true c.group-item.is same
 
 pub returns : goal.returns
-returns c = sym (c.loop-group.invariant ∙ at_drop_all (all_of_contest c.args.contest.candidates) c.args.groups.now c.loop-group.group_index c.loop-group-test.false)
+returns c = sym (c.loop-group.invariant ∙ at_drop_all (all_of_contest c.args.contest.candidates) c.args.groups.now c.loop-group.group-index c.loop-group-test.false)

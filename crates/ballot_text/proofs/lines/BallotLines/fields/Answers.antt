@@ -26,8 +26,8 @@ loop-at-init c =
     let s = c.args.self.now in
     (passed_none (form_of s.form) (slate s.contest.candidates) (text_bytes s.text.now), (omega arith, omega (arith, c.if-line-lt1.false)))
 
-pub unreachable-requires : goal.unreachable-requires
-unreachable-requires c =
+pub prove-unreachable-requires : goal.prove-unreachable-requires
+prove-unreachable-requires c =
     let s = c.args.self.now in
     never_broken (form_of s.form) s.contest.candidates (text_bytes s.text.now) s.ballots s.at s.place c.loop-at.passed c.loop-at.at s.reading c.loop-at.invariant.0 (omega (arith, ap length c.bytes-text.ensures, c.loop-at-test.true)) c.in-Err.field-0
     (subst (λ bs. Breaks (LineOf (form_of s.form)) bs c.in-Err.field-0) (take_rest c.bytes-text.result.now c.loop-at.at ∙ ap (drop c.loop-at.at) c.bytes-text.ensures) c.in-Err.ensures)
@@ -38,8 +38,8 @@ returns-then-passed-line c =
     let k = (goal.at.returns-then-passed-line c).In-Ok in
     fields_found (form_of s.form) (slate s.contest.candidates) (text_bytes s.text.now) c.loop-at.passed c.loop-at.at c.loop-at.invariant.0 (inside k) c.in-Ok.read (read k) c.args.line c.if-passed-line.true
 
-pub overflow-add-at : goal.overflow-add-at
-overflow-add-at c = omega (arith, within (goal.at.overflow-add-at c).In-Ok, c.args.self.now.text.now.short)
+pub overflow_add-at : goal.overflow_add-at
+overflow_add-at c = omega (arith, within (goal.at.overflow_add-at c).In-Ok, c.args.self.now.text.now.short)
 
 pub loop-at-preserved : goal.loop-at-preserved
 loop-at-preserved c =

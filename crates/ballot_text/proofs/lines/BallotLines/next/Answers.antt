@@ -31,22 +31,22 @@ module _ (c : In-Ok) where
       let s = c.args.self.now in
       next_within (form_of s.form) s.contest.candidates (text_bytes s.text.now) s.ballots s.at s.place s.reading inside c.in-Ok.read taken
 
-pub overflow-add-self : goal.overflow-add-self
-overflow-add-self c = omega (arith, within (goal.at.overflow-add-self c).In-Ok, c.args.self.now.text.now.short)
+pub overflow_add-self : goal.overflow_add-self
+overflow_add-self c = omega (arith, within (goal.at.overflow_add-self c).In-Ok, c.args.self.now.text.now.short)
 
-pub overflow-add-self-in-Ok : goal.overflow-add-self-in-Ok
-overflow-add-self-in-Ok c =
+pub overflow_add-self-in-Ok : goal.overflow_add-self-in-Ok
+overflow_add-self-in-Ok c =
     let s = c.args.self.now in
-    omega (arith, place_bound (form_of s.form) s.contest.candidates (text_bytes s.text.now) s.ballots s.at s.place s.reading, inside (goal.at.overflow-add-self-in-Ok c).In-Ok, s.text.now.short)
+    omega (arith, place_bound (form_of s.form) s.contest.candidates (text_bytes s.text.now) s.ballots s.at s.place s.reading, inside (goal.at.overflow_add-self-in-Ok c).In-Ok, s.text.now.short)
 
-pub invariant-of-self : goal.invariant-of-self
-invariant-of-self c =
+pub invariant_of-self : goal.invariant_of-self
+invariant_of-self c =
     let s = c.args.self.now in
-    let k = (goal.at.invariant-of-self c).In-Ok in
+    let k = (goal.at.invariant_of-self c).In-Ok in
     (next_reading (form_of s.form) s.contest.candidates (text_bytes s.text.now) s.ballots s.at s.place s.reading (inside k) c.in-Ok.read (taken k), tt)
 
-pub unreachable-requires : goal.unreachable-requires
-unreachable-requires c =
+pub prove-unreachable-requires : goal.prove-unreachable-requires
+prove-unreachable-requires c =
     let s = c.args.self.now in
     never_faulty (form_of s.form) s.contest.candidates (text_bytes s.text.now) s.ballots s.at s.place s.reading (omega (arith, ap length c.bytes-text.ensures, c.if-at-text.false)) c.in-Err.field-0
     (subst (λ bs. FaultyLine (form_of s.form) (slate s.contest.candidates) 0 bs c.in-Err.field-0) (take_rest c.bytes-text.result.now s.at ∙ ap (drop s.at) c.bytes-text.ensures) c.in-Err.ensures)

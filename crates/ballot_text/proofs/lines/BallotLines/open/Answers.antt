@@ -10,11 +10,11 @@ use Rattle.ballot_text.proofs.lines.BallotLines.open.Goals as goal
 use Rattle.ballot_text.proofs.lines.BallotLines.open.Goals.{In-ok-ballots}
 
 -- what was read, of the text's own bytes
-read : (c : In-ok-ballots) → ReadsAll (form_of c.args.form) (contest_slate c.in-Ok.contest) (text_bytes c.args.text.now) c.in-ok-ballots.ballots
-read c = subst (λ bs. ReadsAll (form_of c.args.form) (contest_slate c.in-Ok.contest) bs c.in-ok-ballots.ballots) c.bytes.ensures c.in-ok-ballots.ensures
+read : (c : In-ok-ballots) → ReadsAll (form_of c.args.form) (contest_slate c.in-Ok.contest) (text_bytes c.args.text.now) c.in_ok-ballots.ballots
+read c = subst (λ bs. ReadsAll (form_of c.args.form) (contest_slate c.in-Ok.contest) bs c.in_ok-ballots.ballots) c.bytes.ensures c.in_ok-ballots.ensures
 
-pub invariant-of-result : goal.invariant-of-result
-invariant-of-result c = (∣ at_start (form_of c.args.form) c.in-Ok.contest.candidates (text_bytes c.args.text.now) c.in-ok-ballots.ballots (read c) ∣₁, tt)
+pub invariant_of-result : goal.invariant_of-result
+invariant_of-result c = (∣ at_start (form_of c.args.form) c.in-Ok.contest.candidates (text_bytes c.args.text.now) c.in_ok-ballots.ballots (read c) ∣₁, tt)
 
 pub returns : goal.returns
 returns c =

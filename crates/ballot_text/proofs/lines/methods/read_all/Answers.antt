@@ -20,12 +20,12 @@ module _ (c : After-count-sum) where
   some =
       some_read (form_of c.args.form) (contest_slate c.args.contest) c.args.text.now c.loop-at.at c.loop-at.line c.loop-at.sum c.loop-at.invariant.0 c.in-Ok.read taken
 
-pub overflow-add-line : goal.overflow-add-line
-overflow-add-line c =
+pub overflow_add-line : goal.overflow_add-line
+overflow_add-line c =
     omega (arith, line_within (form_of c.args.form) (contest_slate c.args.contest) c.args.text.now c.loop-at.at c.loop-at.line c.loop-at.sum c.loop-at.invariant.0, c.loop-at-test.true)
 
-pub overflow-add-at : goal.overflow-add-at
-overflow-add-at c = omega (arith, within c)
+pub overflow_add-at : goal.overflow_add-at
+overflow_add-at c = omega (arith, within c)
 
 pub loop-at-smaller : goal.loop-at-smaller
 loop-at-smaller c = omega (arith, within c, some c)

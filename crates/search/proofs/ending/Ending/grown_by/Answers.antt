@@ -7,8 +7,8 @@ use Rattle.search.specs.EndingValues.{listing}
 use Rattle.search.proofs.Growing.{grown_listing, grown_set}
 use Rattle.search.proofs.ending.Ending.grown_by.Goals as goal
 
-pub invariant-of-result : goal.invariant-of-result
-invariant-of-result c =
+pub invariant_of-result : goal.invariant_of-result
+invariant_of-result c =
     let e = c.args.self in
     let room : e.len < 16 = omega (arith, length-drop (16 - e.len) e.slots) in
     let list = grown_listing e.slots e.len c.args.candidate (omega arith) room in
