@@ -3,7 +3,7 @@ use Rattle.std.proofs.Common.{◌≡◌, ℕ, suc, ◌+◌, ◌≤◌, true, leb
 use Rattle.std.proofs.lemmas.List.{append_assoc}
 use Rattle.std.proofs.lemmas.Bool.{and_parts, leb-true}
 use Rattle.std.specs.List.{AllByRecursion}
-use Rattle.irv.specs.Ballots.{Slate, ranks, BallotGroup, fits_group, all_fit, Fits, ballots, most_ballots}
+use Rattle.irv.specs.Ballots.{Slate, ranks, BallotGroup, fits_group, all_fit, Fits, most_ballots}
 use Rattle.forms.specs.Texts.{Cause, ill_formed, bad_count, bad_candidate, Front, Counts, WrongAfter, byte_after, Refused, Good, OneOutcome}
 use Rattle.forms.specs.Written.{Form, Line, WellFormed, LineOf, line_bytes, text_of, group_of}
 use Rattle.forms.proofs.Reading.{one_line, some_bytes}

@@ -1,6 +1,6 @@
 -- What a ranking says of its fronts, and that the first wrong number of a line stands in one place.
-use Rattle.std.proofs.Common.{◌≡◌, ℕ, true, false, eqb, ◌⊎◌, List, [], ◌∷◌, ◌++◌, sym, refl, ap, ◌∙◌, subst, inl, inr, ⊎_elim}
-use Rattle.std.proofs.lemmas.Bool.{both_ways, eq-eqb, ne_eqb, or_left, or_right, or_from}
+use Rattle.std.proofs.Common.{◌≡◌, ℕ, true, false, ◌⊎◌, List, [], ◌∷◌, ◌++◌, sym, refl, ap, ◌∙◌, inl, inr, ⊎_elim}
+use Rattle.std.proofs.lemmas.Bool.{both_ways}
 use Rattle.irv.specs.Ballots.{Slate, member, mem, ranks}
 use Rattle.irv.proofs.Lists.{ranked_within}
 use Rattle.forms.specs.Texts.{WrongAfter}

@@ -1,5 +1,5 @@
 -- Languages of bytes, and where a text stops being the beginning of a word.
-use Rattle.std.specs.Prelude.{◌≡◌, ℕ, ◌+◌, ◌<◌, ◌≤◌, List, ◌∷◌, ◌++◌, length, take}
+use Rattle.std.specs.Prelude.{ℕ, ◌+◌, ◌<◌, ◌≤◌, List, ◌∷◌, ◌++◌, length, take}
 
 -- which lists of bytes are words
 abbrev pub Language : Type 1

@@ -1,7 +1,7 @@
 -- What a text of ballots holds, or which fault it has and where.
 use Rattle.std.specs.Prelude.{◌≡◌, ℕ, ◌+◌, ◌<◌, ◌≤◌, true, false, ◌⊎◌, List, [], ◌∷◌, ◌++◌, map, length, decimal}
 use Rattle.std.specs.List.{flat_map, AllByRecursion}
-use Rattle.irv.specs.Ballots.{Slate, member, mem, ranks, BallotGroup, Fits, ballots, most_ballots}
+use Rattle.irv.specs.Ballots.{Slate, member, mem, ranks, Fits, ballots, most_ballots}
 use Rattle.forms.specs.Languages.{Breaks}
 use Rattle.forms.specs.Written.{comma, Form, Line, WellFormed, LineOf, line_bytes, text_of, group_of}
 

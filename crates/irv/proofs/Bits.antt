@@ -1,5 +1,5 @@
 -- What a set's binary digits say of its members: the laws of `has` and `with`.
-use Rattle.std.proofs.Common.{◌≡◌, ℕ, zero, suc, ◌+◌, ◌-◌, ◌*◌, ◌/◌, ◌%◌, ◌^◌, ◌<◌, ◌≤◌, max, Bool, true, false, cond, not, ◌&&◌, ◌||◌, eqb, ltb, ◌⊎◌, List, [], ◌∷◌, sym, refl, ap, ◌∙◌, subst, inl, inr, ⊎_elim, one-mul, arith, pow_pos, pow_mono, pow-add, shr-shr}
+use Rattle.std.proofs.Common.{◌≡◌, ℕ, zero, suc, ◌+◌, ◌-◌, ◌/◌, ◌%◌, ◌^◌, ◌<◌, ◌≤◌, max, Bool, true, false, cond, not, ◌&&◌, ◌||◌, eqb, ltb, List, [], ◌∷◌, sym, refl, ap, ◌∙◌, subst, ⊎_elim, one-mul, arith, pow_pos, pow_mono, pow-add, shr-shr}
 use native.Mathlib.Nat.{two-pow-succ, div-eq_of_lt}
 use lib.Bits.{bit_and, bit_or, bit_xor, and_mask, or_shr, or_step, xor_shr, xor_step, differ}
 use lib.Pow.{pow-lt, shl-shr}

@@ -1,12 +1,12 @@
 -- The ballots as a rule: what a step is, which steps they rule out, and that they contradict all orders but their counts.
-use Rattle.std.proofs.Common.{◌≡◌, ℕ, zero, suc, ◌+◌, ◌<◌, ◌≤◌, max, Bool, true, false, not, ◌&&◌, ◌||◌, eqb, ltb, leb, ◌⊎◌, List, [], ◌∷◌, sym, refl, ap, ◌∙◌, subst, inl, inr, ⊎_elim, arith}
+use Rattle.std.proofs.Common.{◌≡◌, ℕ, zero, suc, ◌<◌, ◌≤◌, Bool, true, false, not, ◌&&◌, ◌||◌, eqb, ltb, leb, ◌⊎◌, List, [], ◌∷◌, sym, refl, ap, ◌∙◌, subst, inl, inr, ⊎_elim, arith}
 use lib.Bits.{bit_or}
 use Rattle.std.proofs.lemmas.Bool.{cases_Bool, eqb-true, eq-eqb, ne_eqb, eqb-false, ltb-true, ltb-false, lt-ltb, leb-true, and_parts, and_from, and_left, and_right, or_cases, or_left, or_right, both_ways, not_from_false, not-true}
 use Rattle.std.proofs.lemmas.Bool.Decides.{nat_tests}
 use Rattle.irv.specs.Sets.{Set, empty, has, with, within, set_of, first_candidates}
 use Rattle.irv.specs.Ballots.{Slate, member, mem, ranks, BallotGroup, tally}
 use Rattle.irv.specs.Orders.{Order, EachStep, Fewest, CountOf}
-use Rattle.irv.specs.Endings.{Ruling, OnlySteps, IsStep, Stands, elected, Alternative, Contradicted, FirstStanding}
+use Rattle.irv.specs.Endings.{OnlySteps, IsStep, Stands, elected}
 use Rattle.irv.specs.Tables.{shown, Shows, LeastIn}
 use Rattle.irv.specs.Recounts.{is_step, some_fewer, ballots_ruling, RecountLaws}
 use Rattle.irv.proofs.Bits.{zero_in_none, none_in_empty, one_more, same_members, listed, either_member}

@@ -1,5 +1,5 @@
 -- Rules that rule out steps, endings of orders, and the search for the first order that a rule does not contradict.
-use Rattle.std.specs.Prelude.{◌≡◌, ℕ, ◌<◌, Bool, true, false, ◌⊎◌, List, [], ◌∷◌, reverse, length, IfSome, Some, None, Option, MatchOption, ◌≢◌}
+use Rattle.std.specs.Prelude.{◌≡◌, ℕ, ◌<◌, Bool, true, false, ◌⊎◌, List, [], ◌∷◌, reverse, length, IfSome, None, Option, MatchOption, ◌≢◌}
 use Rattle.std.specs.List.{ContainsAt}
 use Rattle.irv.specs.Sets.{Set, has, set_of}
 use Rattle.irv.specs.Ballots.{Slate, member, ranks}

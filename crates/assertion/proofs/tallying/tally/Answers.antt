@@ -23,7 +23,7 @@ halves g c =
     ap (λ h. h * c.ballots.result) c.half.ensures ∙ ap (λ n. g.A.Assorter.half c.args.assertion.now * n) (c.ballots.ensures ∙ ap ballots c.sum_all-sum.ensures.same_groups)
 
 exact : (g : given.Over) (c : goal.After-passed_by-margin g) → to_z w64 (of_z w64 c.passed_by-margin.result) ≡ margin (g.A.Assorter.value c.args.assertion.now) (g.A.Assorter.half c.args.assertion.now) (g.S.BallotSource.contest c.args.source.now) (g.S.BallotSource.groups c.args.source.now)
-exact g c = omega (arith, ints, c.passed_by-margin.type-inv, c.passed_by-margin.ensures, c.sum_all-sum.ensures.sum, halves g c)
+exact g c = omega (arith, ints, c.passed_by-margin.type_inv, c.passed_by-margin.ensures, c.sum_all-sum.ensures.sum, halves g c)
 
 pub returns : goal.returns
 returns g c =

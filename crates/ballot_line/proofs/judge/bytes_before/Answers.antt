@@ -5,7 +5,7 @@ use Rattle.ballot_line.proofs.judge.bytes_before.Goals.{After-digits}
 
 few_digits : (c : After-digits) → c.digits.result ≤ 10
 few_digits c =
-    let fits = c.type-inv.numbers c.loop-i.i in
+    let fits = c.type_inv.numbers c.loop-i.i in
     omega (arith, c.digits.ensures, ten_digits (get_or c.args.numbers.now c.loop-i.i 0) (omega arith))
 
 pub overflow_add-bytes : goal.overflow_add-bytes

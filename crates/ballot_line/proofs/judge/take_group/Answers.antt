@@ -8,7 +8,7 @@ use Rattle.ballot_line.proofs.judge.take_group.Goals as goal
 
 pub returns-in_err-ranking : goal.returns-in_err-ranking
 returns-in_err-ranking c =
-    let p = err_from_is_err_and c.from-residual.result c.from-residual.ensures.1 in
+    let p = err_from_is_err_and c.from_residual.result c.from_residual.ensures.1 in
     let line = c.in-Ok.line in
     let whole : line.len - 0 ≡ line.len = omega arith in
     rw (p.1, p.2)

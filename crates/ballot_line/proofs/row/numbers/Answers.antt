@@ -5,7 +5,7 @@ use Rattle.ballot_line.proofs.row.numbers.Goals as goal
 
 pub returns-in_err-next : goal.returns-in_err-next
 returns-in_err-next c =
-    let p = err_from_is_err_and c.from-residual.result c.from-residual.ensures.1 in
+    let p = err_from_is_err_and c.from_residual.result c.from_residual.ensures.1 in
     rw (p.1, p.2) (row_missing _ _ _ c.requires.marks _ _ _ _ c.loop-next.invariant _ c.in_err-next.ensures)
 
 pub returns-in-Ok : goal.returns-in-Ok
@@ -17,7 +17,7 @@ returns-then-len-limit c =
 
 pub returns-in_err-rest : goal.returns-in_err-rest
 returns-in_err-rest c =
-    let p = err_from_is_err_and c.from-residual-in_err-rest.result c.from-residual-in_err-rest.ensures.1 in
+    let p = err_from_is_err_and c.from_residual-in_err-rest.result c.from_residual-in_err-rest.ensures.1 in
     let h = c.in_err-rest.ensures in
     rw (p.1, p.2) (row_breaks _ _ _ c.requires.marks _ _ _ _ c.loop-next.invariant _ _ _ c.in_ok-next.ensures h.0 c.in_default.ensures.1 (λ more. h.1))
 

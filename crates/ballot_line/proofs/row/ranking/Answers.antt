@@ -5,7 +5,7 @@ use Rattle.ballot_line.proofs.row.ranking.Goals as goal
 
 pub returns-in_err-rest : goal.returns-in_err-rest
 returns-in_err-rest c =
-    let p = err_from_is_err_and c.from-residual.result c.from-residual.ensures.1 in
+    let p = err_from_is_err_and c.from_residual.result c.from_residual.ensures.1 in
     let h = c.in_err-rest.ensures in
     rw (p.1, p.2) (ranking_unended _ _ _ c.in-Ok.ensures h.0 h.1)
 

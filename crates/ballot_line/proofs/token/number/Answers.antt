@@ -4,7 +4,7 @@ use Rattle.ballot_line.proofs.Steps.{number_first, number_more, number_zero, num
 use Rattle.ballot_line.proofs.token.number.Goals as goal
 
 pub returns-in_err-number : goal.returns-in_err-number
-returns-in_err-number c = let p = err_from_is_err_and c.from-residual.result c.from-residual.ensures.1 in rw (p.1, p.2) (let h = c.in_err-number.ensures in number_none _ _ h.0 h.1)
+returns-in_err-number c = let p = err_from_is_err_and c.from_residual.result c.from_residual.ensures.1 in rw (p.1, p.2) (let h = c.in_err-number.ensures in number_none _ _ h.0 h.1)
 
 pub returns-then-number-eq0 : goal.returns-then-number-eq0
 returns-then-number-eq0 c = let h = c.in_ok-number.ensures in number_zero _ _ _ (omega arith) h.1

@@ -98,7 +98,7 @@ loop-candidate-preserved g t c =
         ap g.R.Rule.contest w.rule-is ∙ w.in-NotTried.ensures.same_contest ∙ c.loop-candidate.invariant.0,
         (
           ap g.R.Rule.ruling w.rule-is ∙ w.in-NotTried.ensures.same_ruling ∙ c.loop-candidate.invariant.1.0,
-          subst Next (sym w.count_is) (left_skipped r c.args.winner s.candidates c.args.limit e c.args.tried i c.loop-candidate.count more left w.in-NotTried.ensures.trial),
+          subst Next (sym w.count-is) (left_skipped r c.args.winner s.candidates c.args.limit e c.args.tried i c.loop-candidate.count more left w.in-NotTried.ensures.trial),
           subst (g.R.Rule.kept c.args.rule.now) (sym w.rule-is) (g.R.Rule.chains.more c.args.rule.now c.loop-candidate.rule c.try_with.new.rule c.loop-candidate.invariant.1.2 w.in-NotTried.ensures.same_rest),
         ),
       )
@@ -108,7 +108,7 @@ loop-candidate-preserved g t c =
             ap g.R.Rule.contest w.rule-is ∙ w.in-Blocked.ensures.same_contest ∙ c.loop-candidate.invariant.0,
             (
               ap g.R.Rule.ruling w.rule-is ∙ w.in-Blocked.ensures.same_ruling ∙ c.loop-candidate.invariant.1.0,
-              subst Next (sym (w.count_is ∙ trial.1.1.0)) (left_blocked r c.args.winner s.candidates c.args.limit e c.args.tried i c.loop-candidate.count more left trial.0 trial.1.0 out),
+              subst Next (sym (w.count-is ∙ trial.1.1.0)) (left_blocked r c.args.winner s.candidates c.args.limit e c.args.tried i c.loop-candidate.count more left trial.0 trial.1.0 out),
               subst (g.R.Rule.kept c.args.rule.now) (sym w.rule-is) (g.R.Rule.chains.more c.args.rule.now c.loop-candidate.rule c.try_with.new.rule c.loop-candidate.invariant.1.2 w.in-Blocked.ensures.same_rest),
             ),
           )
@@ -123,7 +123,7 @@ loop-candidate-preserved g t c =
             ap g.R.Rule.contest w.rule-is ∙ w.in-NoSurvivor.ensures.same_contest ∙ contests,
             (
               ap g.R.Rule.ruling w.rule-is ∙ w.in-NoSurvivor.ensures.same_ruling ∙ rules,
-              subst Next (sym w.count_is) (left_open r c.args.winner s.candidates c.args.limit e c.args.tried i c.loop-candidate.count more left trial.0 trial.1.0 out short end leads w.in-NoSurvivor.total refl),
+              subst Next (sym w.count-is) (left_open r c.args.winner s.candidates c.args.limit e c.args.tried i c.loop-candidate.count more left trial.0 trial.1.0 out short end leads w.in-NoSurvivor.total refl),
               subst (g.R.Rule.kept c.args.rule.now) (sym w.rule-is) (g.R.Rule.chains.more c.args.rule.now c.try_with.new.rule _ (g.R.Rule.chains.more c.args.rule.now c.loop-candidate.rule c.try_with.new.rule c.loop-candidate.invariant.1.2 w.in-Open.ensures.same_rest) w.in-NoSurvivor.ensures.same_rest),
             ),
           )

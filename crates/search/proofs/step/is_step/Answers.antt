@@ -1,6 +1,5 @@
 use Rattle.std.proofs.Common.{◌≡◌, true, cond, not, eqb, leb, sym, ap, ◌∙◌, arith}
 use Rattle.std.proofs.lemmas.Bool.{and_parts, leb-true}
-use Rattle.std.proofs.lemmas.Bool.Decides.{same_from_decides, Decides-eqb}
 use Rattle.irv.specs.Sets.{empty, with}
 use Rattle.irv.proofs.Recounts.{step_not_within, step_member, step_by_alone}
 use Rattle.ballot.specs.Sets.{members, in_range}
@@ -21,5 +20,4 @@ returns c =
     let room : in_range out ≡ true = room_for out (leb-true 1 out bounds.0) (omega (arith, leb-true out c.args.contest.candidates bounds.1, c.args.contest.proper)) in
     let alone : members c.insert.new.self ≡ with out empty =
     c.insert.ensures.after ∙ ap (λ b. cond b (with out (members c.new-alone.result)) (members c.new-alone.result)) (c.insert.ensures.value ∙ room) ∙ ap (with out) c.new-alone.ensures in
-    let told = c.ne.ensures in
-    step_by_alone s (members c.everyone.result) c.everyone.ensures R out (sym c.if-not-within.ensures) (sym c.if-not-has.ensures) c.ne.result (told.2 ∙ ap not (same_from_decides told.0 (eqb R (members c.insert.new.self)) told.1 (Decides-eqb R (members c.insert.new.self)) ∙ ap (eqb R) alone))
+    step_by_alone s (members c.everyone.result) c.everyone.ensures R out (sym c.if-not-within.ensures) (sym c.if-not-has.ensures) c.ne.result (c.ne.ensures ∙ ap (λ n. not (eqb R n)) alone)

@@ -1,4 +1,4 @@
-use Rattle.std.proofs.Common.{◌≡◌, ℕ, ◌≤◌, sym, ap, ◌∙◌, arith}
+use Rattle.std.proofs.Common.{◌≡◌, sym, ap, ◌∙◌, arith}
 use Rattle.irv.specs.Sets.{has}
 use Rattle.irv.proofs.Bits.{zero_in_none, none_above, has_by_mask}
 use Rattle.ballot.proofs.candidate_set.CandidateSet.has.Goals as goal

@@ -1,6 +1,6 @@
-use Rattle.std.proofs.Common.{◌≡◌, ◌<◌, ◌≤◌, true, false, [], ◌∷◌, ◌++◌, length, get_or, take, sym, refl, ap, ◌∙◌, subst, arith}
+use Rattle.std.proofs.Common.{◌≡◌, ◌<◌, true, [], ◌∷◌, ◌++◌, length, get_or, take, sym, refl, ap, ◌∙◌, subst, arith}
 use Rattle.std.proofs.lemmas.List.{take_more, take_more_set, take_all, length-set}
-use Rattle.irv.specs.Ballots.{slate, ranks}
+use Rattle.irv.specs.Ballots.{ranks}
 use Rattle.irv.proofs.Lists.{ranked_at_most_once}
 use Rattle.ballot.specs.Values.{contest_slate}
 use Rattle.ballot.proofs.Growing.{unfit_somewhere, unfit_nowhere}

@@ -12,7 +12,10 @@ invariant_of-result c =
     let e = c.args.self in
     let room : e.len < 16 = omega (arith, length-drop (16 - e.len) e.slots) in
     let list = grown_listing e.slots e.len c.args.candidate (omega arith) room in
-    (omega arith, (grown_set (members e.set) (members c.insert.new.self) (listing e) c.args.candidate c.insert.result c.requires.1.0 c.requires.1.1 c.insert.ensures.value c.insert.ensures.after e.same ∙ sym (ap set_of list), tt))
+    record {
+      room = omega arith;
+      same = grown_set (members e.set) (members c.insert.new.self) (listing e) c.args.candidate c.insert.result c.requires.1.0 c.requires.1.1 c.insert.ensures.value c.insert.ensures.after e.same ∙ sym (ap set_of list);
+    }
 
 pub returns : goal.returns
 returns c =
