@@ -1,5 +1,5 @@
 -- What the ballots of a lent source show as a rule.
-use Rattle.std.specs.Borrow.{Bor, MutBor}
+use Rattle.std.specs.Borrow.{MutBor}
 use Rattle.std.specs.Prelude.{◌≡◌, ℕ, List, refl}
 use Rattle.std.proofs.Common.{◌∙◌}
 use Rattle.irv.specs.Ballots.{Slate, BallotGroup}
@@ -17,7 +17,7 @@ pub record SameLent {S : Type 0} (contest : S → Slate) (groups : S → List Ba
   pub contest_same : contest y.now ≡ contest x.now
   pub groups_same : groups y.now ≡ groups x.now
 
-pub same_lent_chains : {S X : Type 0} (contest : S → Slate) (groups : S → List BallotGroup) (source : X → Bor S) → Chains (λ (x y : X). SameLent contest groups (source x) (source y))
+pub same_lent_chains : {S X : Type 0} (contest : S → Slate) (groups : S → List BallotGroup) (source : X → MutBor S) → Chains (λ (x y : X). SameLent contest groups (source x) (source y))
 same_lent_chains contest groups source = record {
   none = λ x. record { lender = refl; contest_same = refl; groups_same = refl };
   more = λ x y z p q. record { lender = q.lender ∙ p.lender; contest_same = q.contest_same ∙ p.contest_same; groups_same = q.groups_same ∙ p.groups_same };

@@ -26,8 +26,8 @@ loop-at-init c =
     let s = c.args.self.now in
     (passed_none (form_of s.form) (slate s.contest.candidates) (text_bytes s.text.now), (omega arith, omega (arith, c.if-line-lt1.false)))
 
-pub prove-unreachable-requires : goal.prove-unreachable-requires
-prove-unreachable-requires c =
+pub unreachable-requires : goal.unreachable-requires
+unreachable-requires c =
     let s = c.args.self.now in
     never_broken (form_of s.form) s.contest.candidates (text_bytes s.text.now) s.ballots s.at s.place c.loop-at.passed c.loop-at.at s.reading c.loop-at.invariant.0 (omega (arith, ap length c.bytes-text.ensures, c.loop-at-test.true)) c.in-Err.field-0
     (subst (λ bs. Breaks (LineOf (form_of s.form)) bs c.in-Err.field-0) (take_rest c.bytes-text.result.now c.loop-at.at ∙ ap (drop c.loop-at.at) c.bytes-text.ensures) c.in-Err.ensures)

@@ -43,10 +43,10 @@ pub invariant_of-self : goal.invariant_of-self
 invariant_of-self c =
     let s = c.args.self.now in
     let k = (goal.at.invariant_of-self c).In-Ok in
-    (next_reading (form_of s.form) s.contest.candidates (text_bytes s.text.now) s.ballots s.at s.place s.reading (inside k) c.in-Ok.read (taken k), tt)
+    record { reading = next_reading (form_of s.form) s.contest.candidates (text_bytes s.text.now) s.ballots s.at s.place s.reading (inside k) c.in-Ok.read (taken k) }
 
-pub prove-unreachable-requires : goal.prove-unreachable-requires
-prove-unreachable-requires c =
+pub unreachable-requires : goal.unreachable-requires
+unreachable-requires c =
     let s = c.args.self.now in
     never_faulty (form_of s.form) s.contest.candidates (text_bytes s.text.now) s.ballots s.at s.place s.reading (omega (arith, ap length c.bytes-text.ensures, c.if-at-text.false)) c.in-Err.field-0
     (subst (λ bs. FaultyLine (form_of s.form) (slate s.contest.candidates) 0 bs c.in-Err.field-0) (take_rest c.bytes-text.result.now s.at ∙ ap (drop s.at) c.bytes-text.ensures) c.in-Err.ensures)

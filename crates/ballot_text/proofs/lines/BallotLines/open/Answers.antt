@@ -7,20 +7,20 @@ use Rattle.ballot_text.specs.Sound.{holds_groups}
 use Rattle.ballot_text.specs.Texts.{text_bytes}
 use Rattle.ballot_text.proofs.Placing.{at_start}
 use Rattle.ballot_text.proofs.lines.BallotLines.open.Goals as goal
-use Rattle.ballot_text.proofs.lines.BallotLines.open.Goals.{In-ok-ballots}
+use Rattle.ballot_text.proofs.lines.BallotLines.open.Goals.{In_ok-ballots}
 
 -- what was read, of the text's own bytes
-read : (c : In-ok-ballots) → ReadsAll (form_of c.args.form) (contest_slate c.in-Ok.contest) (text_bytes c.args.text.now) c.in_ok-ballots.ballots
+read : (c : In_ok-ballots) → ReadsAll (form_of c.args.form) (contest_slate c.in-Ok.contest) (text_bytes c.args.text.now) c.in_ok-ballots.ballots
 read c = subst (λ bs. ReadsAll (form_of c.args.form) (contest_slate c.in-Ok.contest) bs c.in_ok-ballots.ballots) c.bytes.ensures c.in_ok-ballots.ensures
 
 pub invariant_of-result : goal.invariant_of-result
-invariant_of-result c = (∣ at_start (form_of c.args.form) c.in-Ok.contest.candidates (text_bytes c.args.text.now) c.in_ok-ballots.ballots (read c) ∣₁, tt)
+invariant_of-result c = record { reading = ∣ at_start (form_of c.args.form) c.in-Ok.contest.candidates (text_bytes c.args.text.now) c.in_ok-ballots.ballots (read c) ∣₁ }
 
 pub returns : goal.returns
 returns c =
     let f = form_of c.args.form in
     let bs = text_bytes c.args.text.now in
-    let all = read (goal.at.returns c).In-ok-ballots in (
+    let all = read (goal.at.returns c).In_ok-ballots in (
       record {
         proper = c.in-Ok.ensures.0;
         form_is = refl;

@@ -6,4 +6,4 @@ use Rattle.ballot_text.proofs.lines.BallotLines.rewind.Goals as goal
 pub invariant_of-self : goal.invariant_of-self
 invariant_of-self c =
     let s = c.args.self.now in
-    (again_at_start (form_of s.form) s.contest.candidates (text_bytes s.text.now) s.ballots s.at s.place s.reading, tt)
+    record { reading = again_at_start (form_of s.form) s.contest.candidates (text_bytes s.text.now) s.ballots s.at s.place s.reading }

@@ -17,6 +17,6 @@ returns g c =
           ap (λ x. ltb x c.shown_in-2.result) c.shown_in.ensures ∙ ap (ltb (shown c.tally_all-tallies.result c.least_in-least.result)) c.shown_in-2.ensures
           ∙ ruling_by_least (m.contest source) (m.groups source) R c.args.out c.least_in-least.result c.tally_all-tallies.result (m.sound source).proper.1 step told.tallies c.least_in-least.ensures;
       same_contest = told.same_contest;
-      same-ruling = ap (λ s. ballots_ruling s (m.groups c.tally_all-tallies.new.source)) told.same_contest ∙ ap (ballots_ruling (m.contest source)) told.same_groups;
+      same_ruling = ap (λ s. ballots_ruling s (m.groups c.tally_all-tallies.new.source)) told.same_contest ∙ ap (ballots_ruling (m.contest source)) told.same_groups;
       same_rest = record { lender = refl; contest_same = told.same_contest; groups_same = told.same_groups };
     }
