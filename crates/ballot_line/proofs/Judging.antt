@@ -1,5 +1,5 @@
 -- A well-formed line whose count is right is refused at its first wrong candidate.
-use Rattle.std.proofs.Common.{◌≡◌, ℕ, List, length, take, drop, refl}
+use Rattle.std.proofs.Common.{ℕ, List, length, take, drop}
 use Rattle.irv.specs.Ballots.{Slate}
 use Rattle.forms.specs.Texts.{Counts, bad_candidate}
 use Rattle.forms.specs.Written.{Form}

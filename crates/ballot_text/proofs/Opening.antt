@@ -1,17 +1,15 @@
 -- A text read line by line: what was read so far, one line more, the first faulty line, the end.
-use Rattle.std.proofs.Common.{◌≡◌, ℕ, suc, ◌+◌, ◌-◌, ◌<◌, ◌≤◌, true, ◌&&◌, leb, List, [], ◌∷◌, ◌++◌, map, length, take, drop, sym, refl, ap, ◌∙◌, subst, arith, length-append, length-drop}
+use Rattle.std.proofs.Common.{◌≡◌, ℕ, ◌+◌, ◌<◌, ◌≤◌, true, leb, List, [], ◌∷◌, ◌++◌, map, length, drop, sym, refl, ap, ◌∙◌, subst, arith, length-append, length-drop}
 use Rattle.std.proofs.ByRecursion.{All-push}
 use Rattle.std.proofs.lemmas.List.{append_assoc, append-nil, map_push, length_push, drop-drop, drop_all, flat_map_more}
 use Rattle.std.proofs.lemmas.List.Sums.{sum_by_push}
 use Rattle.std.proofs.lemmas.Bool.{and_parts, and_from, le-leb}
 use Rattle.irv.specs.Ballots.{Slate, BallotGroup, fits_group, all_fit, ballots, most_ballots, Fits}
 use Rattle.std.specs.List.{AllByRecursion}
-use Rattle.forms.specs.Texts.{Holds, Good, Faulty, Refused}
+use Rattle.forms.specs.Texts.{Good, Refused}
 use Rattle.forms.specs.Written.{semicolon, newline, written_ranking, Form, Line, WellFormed, line_bytes, text_of, group_of}
-use Rattle.ballot.specs.Values.{group_value}
-use Rattle.ballot_line.specs.Faults.{cause_refusal, TakesGroup, FaultyLine}
+use Rattle.ballot_line.specs.Faults.{TakesGroup, FaultyLine}
 use Rattle.ballot_text.specs.Openings.{ReadsAll, FaultyText}
-use Rattle.ballot_text.specs.declared.fault.Fault.{Fault}
 use Rattle.ballot_line.specs.declared.judge.GroupRead.{GroupRead}
 use Rattle.ballot_line.specs.declared.judge.LineFault.{LineFault}
 

@@ -1,17 +1,15 @@
 -- A place among the lines of a text: the start, the line there, one line on, the end.
-use Rattle.std.proofs.Common.{◌≡◌, ℕ, zero, suc, ◌+◌, ◌-◌, ◌<◌, ◌≤◌, List, [], ◌∷◌, ◌++◌, map, length, get_or, take, drop, sym, refl, ap, ◌∙◌, subst, arith, length-append, length-drop, take-append-drop}
-use mathlib.Core.List.{is_set}
+use Rattle.std.proofs.Common.{◌≡◌, ℕ, zero, suc, ◌+◌, ◌<◌, ◌≤◌, List, [], ◌∷◌, ◌++◌, map, length, get_or, take, drop, sym, refl, ap, ◌∙◌, subst, arith, length-append, length-drop, take-append-drop}
 use mathlib.Core.Logic.{∥∥₁_elim, ∥∥₁_map}
 use native.Mathlib.Bridge.{le_prop}
 use lib.ListN.{length-map}
-use Rattle.std.proofs.lemmas.List.{append_assoc, drop_at, drop-map, drop-drop, drop_all, drop_more, take_more, length-take-le}
-use Rattle.std.specs.List.{flat_map, AllByRecursion}
-use Rattle.irv.specs.Ballots.{Slate, slate, BallotGroup, Proper, ballots}
+use Rattle.std.proofs.lemmas.List.{append_assoc, drop_at, drop-map, drop_all, drop_more, take_more, length-take-le}
+use Rattle.irv.specs.Ballots.{Slate, slate}
 use Rattle.irv.proofs.Unique.{groups_set}
-use Rattle.ballot.specs.Values.{group_slate, group_value}
+use Rattle.ballot.specs.Values.{group_value}
 use Rattle.forms.specs.Decoded.{decoded}
-use Rattle.forms.specs.Texts.{Holds, Good}
-use Rattle.forms.specs.Written.{Form, Line, WellFormed, line_bytes, text_of, group_of}
+use Rattle.forms.specs.Texts.{Good}
+use Rattle.forms.specs.Written.{Form, Line, line_bytes, text_of, group_of}
 use Rattle.forms.proofs.Outcome.{fit_goods, Goods, good_not_refused}
 use Rattle.forms.proofs.Reading.{one_line, some_bytes}
 use Rattle.ballot_line.specs.Faults.{TakesGroup, FaultyLine}

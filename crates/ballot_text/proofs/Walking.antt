@@ -1,5 +1,5 @@
 -- A walk from line to line of a text: how far it has come, the line there, one line on, the end.
-use Rattle.std.proofs.Common.{◌≡◌, ℕ, ◌+◌, ◌-◌, ◌<◌, ◌≤◌, List, [], ◌∷◌, ◌++◌, length, take, drop, sym, refl, ap, ◌∙◌, subst, arith, length-append, length-drop}
+use Rattle.std.proofs.Common.{◌≡◌, ℕ, ◌+◌, ◌-◌, ◌<◌, ◌≤◌, List, [], ◌∷◌, ◌++◌, length, take, drop, sym, refl, ap, ◌∙◌, arith, length-append, length-drop}
 use mathlib.Core.Logic.{∥∥₁_elim}
 use Rattle.std.proofs.lemmas.List.{drop_all}
 use Rattle.irv.specs.Ballots.{Slate, slate}
@@ -13,7 +13,6 @@ use Rattle.ballot_text.specs.Fields.{FieldsAmong}
 use Rattle.ballot_line.specs.Lines.{line_of, ReadsLine}
 use Rattle.ballot_text.specs.Readings.{Reading}
 use Rattle.ballot_line.specs.declared.line.LineRead.{LineRead}
-use Rattle.ballot_text.specs.declared.lines.fields.LineFields.{LineFields}
 use Rattle.ballot_text.proofs.Placing.{left_text, Next, next_line, good_at, text_append}
 
 -- so many lines were passed, and the next begins at this byte

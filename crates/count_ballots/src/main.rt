@@ -2,6 +2,7 @@
 // other count of them elects another.
 #![tactic(auto)]
 
+use anyhow::anyhow;
 use ballot::source::BallotSource;
 use ballot::walk::groups_in;
 use ballot_line::TextForm;
@@ -38,16 +39,16 @@ fn requested(rt: &HostRuntime) -> anyhow::Result<Request> {
     let mut args = env::args(rt)?;
     let _ = args.next();
     let Some(number) = args.next() else {
-        return Err(USAGE.into());
+        return Err(anyhow!("{USAGE}"));
     };
     let Some(name) = args.next() else {
-        return Err(USAGE.into());
+        return Err(anyhow!("{USAGE}"));
     };
     let Ok(candidates) = number.as_str().parse::<u32>() else {
-        return Err(USAGE.into());
+        return Err(anyhow!("{USAGE}"));
     };
     let Some(form) = form_named(name.as_str()) else {
-        return Err(USAGE.into());
+        return Err(anyhow!("{USAGE}"));
     };
     Ok(Request { candidates, form })
 }

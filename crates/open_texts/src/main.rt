@@ -2,6 +2,7 @@
 // A case is a line CANDIDATES rows|groups TEXT, where \n in the text stands for the end of a line.
 #![tactic(auto)]
 
+use anyhow::anyhow;
 use ballot::source::BallotSource;
 use ballot::walk::groups_in;
 use ballot_line::TextForm;
@@ -85,7 +86,7 @@ fn run(rt: &HostRuntime) -> anyhow::Result<()> {
     for line in rt.lines(rt.alloc()) {
         let line = line?;
         let Some(case) = case_in(line.as_str()) else {
-            return Err(USAGE.into());
+            return Err(anyhow!("{USAGE}"));
         };
         let bytes = case.text.replace(rt.alloc(), "\\n", "\n")?;
         let text = BallotText::new(bytes.as_bytes());

@@ -1,4 +1,4 @@
-use Rattle.std.proofs.Common.{◌≤◌, length, get_or, decimal, arith}
+use Rattle.std.proofs.Common.{◌≤◌, get_or, arith}
 use Rattle.ballot_line.proofs.Widths.{ten_digits, listed_more}
 use Rattle.ballot_line.proofs.judge.bytes_before.Goals as goal
 use Rattle.ballot_line.proofs.judge.bytes_before.Goals.{After-digits}

@@ -1,4 +1,4 @@
-use Rattle.std.proofs.Common.{◌≡◌, true, false, sym, refl, ap, ◌∙◌, rules}
+use Rattle.std.proofs.Common.{sym, refl, ap, ◌∙◌, rules}
 use Rattle.irv.specs.Ballots.{member}
 use Rattle.irv.proofs.Recounts.{recount_laws}
 use Rattle.elimination.proofs.recount.recount.Goals as goal
