@@ -2,7 +2,7 @@
 ghost use Rattle.std.specs.Prelude.{◌≡◌, ℕ, ◌*◌, ◌≤◌, List, pos, ◌-ℤ◌, ◌<ℤ◌, IfOk, None, MatchResult};
 ghost use Rattle.irv.specs.Orders.{CountOf};
 ghost use Rattle.irv.specs.Endings.{Stands};
-ghost use Rattle.irv.specs.Assertions.{judged, value_sum, margin as margin-of};
+ghost use Rattle.irv.specs.Assertions.{judged, value_sum, margin as margin_of};
 ghost use Rattle.assertion.specs.Causes.{Refused};
 ghost use Rattle.assertion.specs.Sums.{most_value};
 
@@ -58,7 +58,7 @@ pub fn tally<A: Assorter, S: BallotSource>(
 ) -> Result<Tallied, Refusal>
     ensures same_contest { S.contest source.new ≡ S.contest source.old }
     ensures same_groups { S.groups source.new ≡ S.groups source.old }
-    ensures outcome { MatchResult result (λ t. (judged (S.contest source.old) (A.written assertion.now) ≡ None) × ((t.sum ≡ value_sum (A.value assertion.now) (S.contest source.old) (S.groups source.old)) × (t.margin ≡ margin-of (A.value assertion.now) (A.half assertion.now) (S.contest source.old) (S.groups source.old)))) (λ e. Refused (judged (S.contest source.old) (A.written assertion.now)) e × (source.new ≡ source.old)) }
+    ensures outcome { MatchResult result (λ t. (judged (S.contest source.old) (A.written assertion.now) ≡ None) × ((t.sum ≡ value_sum (A.value assertion.now) (S.contest source.old) (S.groups source.old)) × (t.margin ≡ margin_of (A.value assertion.now) (A.half assertion.now) (S.contest source.old) (S.groups source.old)))) (λ e. Refused (judged (S.contest source.old) (A.written assertion.now)) e × (source.new ≡ source.old)) }
     ensures rightly { IfOk result (λ t. pos 0 <ℤ t.margin → (o : List ℕ) → CountOf (S.contest source.old) (S.groups source.old) o → Stands (A.rules assertion.now) o) }
 {
     let contest = contest_of(source);
