@@ -5,13 +5,13 @@ use Rattle.std.proofs.lemmas.Int.{ints}
 use Rattle.std.specs.Option.{option_map}
 use Rattle.std.specs.List.{ContainsAt}
 use Rattle.irv.specs.Ballots.{Slate, BallotGroup}
-use Rattle.irv.specs.Assertions.{Holds, first_of}
+use Rattle.irv.specs.Assertions.{Holds}
 use Rattle.ballot.specs.declared.refusal.Refusal.{Refusal}
 use Rattle.ballot.specs.declared.refusal.Refusal.TheVariants.{NotChecked, NotTallied, AssertionDoesNotHold, BufferTooShort}
 use Rattle.assertion.specs.Kinds.{value_kind, half_kind}
 use Rattle.assertion.specs.declared.assertion.Assertion.{Assertion}
 use Rattle.audit.specs.Entries.{Entry, Line, lines_from, entries, line_on}
-use Rattle.audit.specs.States.{Opening, State, Standing, standing, unless_so}
+use Rattle.audit.specs.States.{Opening, State, Standing, standing, unless_so, first_some}
 use Rattle.audit.specs.Calls.{Call, enters, withdraws, checks, tallies, plans, ReplyTo, Replies, Answers, Finding, accepts, rejects, stops, answered, first_failing, totals, no_totals, page_of, Event, entered, withdrawn, accepted, tallied, event}
 use Rattle.audit.specs.Histories.{Turn, Run, then, events, given_in, live_in, since_change, last_tallied, totals_on, standing_by}
 use Rattle.audit.specs.Laws.{LowestFailing}
@@ -88,7 +88,7 @@ lowest s gs n k (e ∷ es) rising is = by (lt_z (pos 0) (line_on s gs e).margin)
         ((e, has_here e es, number, not_above _ fails), λ f has below. absurd (⊎_elim (λ same. omega (arith, ap (λ x. x.number) same)) (λ later. omega (arith, rises_above e.number es f rising.1 later)) (has_cases e f es has)))
 
 -- a refusal for a failing assertion says which is the first
-fails_told : (b c d : Bool) (ff : Option ℕ) (n len : ℕ) (bytes : List ℕ) → Err (AssertionDoesNotHold n) ≡ answered (first_of (unless_so b NotChecked ∷ unless_so c NotTallied ∷ option_map AssertionDoesNotHold ff ∷ unless_so d (BufferTooShort len) ∷ [])) bytes → (c ≡ true) × (ff ≡ Some n)
+fails_told : (b c d : Bool) (ff : Option ℕ) (n len : ℕ) (bytes : List ℕ) → Err (AssertionDoesNotHold n) ≡ answered (first_some (unless_so b NotChecked ∷ unless_so c NotTallied ∷ option_map AssertionDoesNotHold ff ∷ unless_so d (BufferTooShort len) ∷ [])) bytes → (c ≡ true) × (ff ≡ Some n)
 fails_told true true d (Some m) n len bytes is = (refl, cc)
 fails_told true true true None n len bytes is = let z : ◌≡◌ {A = ℕ} 0 1 = cc in absurd (omega arith)
 fails_told true true false None n len bytes is = let z : ◌≡◌ {A = ℕ} 0 1 = cc in absurd (omega arith)

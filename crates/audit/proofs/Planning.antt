@@ -10,9 +10,9 @@ use Rattle.std.specs.List.{AllByRecursion}
 use Rattle.irv.specs.Ballots.{Slate, slate, BallotGroup, ballots, Fits, Proper}
 use Rattle.irv.specs.Orders.{CountOf}
 use Rattle.irv.specs.Endings.{Alternative, elected, FirstStanding}
-use Rattle.irv.specs.Assertions.{judged, Holds, first_of, rules_any}
+use Rattle.irv.specs.Assertions.{judged, Holds, rules_any}
 use Rattle.irv.specs.AssertionLaws.{SoundAssorter}
-use Rattle.irv.proofs.Assertions.{none_of, none_ruled, all_stand}
+use Rattle.irv.proofs.Assertions.{none_ruled, all_stand}
 use Rattle.ballot.specs.declared.refusal.Refusal.{Refusal}
 use Rattle.ballot.specs.declared.refusal.Refusal.TheVariants.{NotTallied, AssertionDoesNotHold}
 use Rattle.assertion.specs.Causes.{cause_refusal}
@@ -21,7 +21,7 @@ use Rattle.assertion.specs.Sound.{any_kind_law}
 use Rattle.assertion.proofs.Summing.{sum_small}
 use Rattle.audit.specs.Entries.{Entry, Line, line_on, rules_of_entries, without}
 use Rattle.audit.specs.Pages.{page}
-use Rattle.audit.specs.States.{Opening, State, Opens, Standing, standing, opening_refusal, unless_so}
+use Rattle.audit.specs.States.{Opening, State, Opens, Standing, standing, opening_refusal, unless_so, first_some}
 use Rattle.audit.specs.Calls.{Call, enters, withdraws, checks, tallies, plans, ReplyTo, Replies, Answers, Shown, Finding, accepts, rejects, stops, answered, first_failing, not_checked, not_tallied, page_fits, plan_refusal, totals, no_totals, Event, entered, withdrawn, accepted, tallied, event}
 use Rattle.audit.specs.Histories.{Turn, Run, then, events, live_in, since_change, last_accepted, last_tallied, totals_on, standing_by}
 use Rattle.audit.specs.Laws.{AllContradicted, PlanShows, WinnerCannotLose}
@@ -41,6 +41,11 @@ record Kept (o : Opening) (h : List Event) : Type 0 where
 
 none_some : {X Y : Type 0} (x : X) → None ≡ Some x → Y
 none_some x is = let z : ◌≡◌ {A = ℕ} 0 1 = cc in absurd (omega arith)
+
+-- what it means that no cause is found
+none_of : {X : Type 0} (x : Option X) (xs : List (Option X)) → first_some (x ∷ xs) ≡ None → (x ≡ None) × (first_some xs ≡ None)
+none_of None xs h = (refl, h)
+none_of (Some c) xs h = let z : ◌≡◌ {A = ℕ} 0 1 = cc in absurd (omega arith)
 
 mapped_none : {X Y : Type 0} (f : X → Y) (x : Option X) → option_map f x ≡ None → x ≡ None
 mapped_none f None is = refl
@@ -152,7 +157,7 @@ module _ (o : Opening) (ts : List Turn) (s t : State) (room : ℕ) (bytes : List
   no_cause : plan_refusal st room ≡ None
   no_cause = (ok_answered _ _ _ (replies o ts s t (plans room) (Ok bytes) run ans)).0
 
-  no_second : first_of (not_tallied st ∷ option_map AssertionDoesNotHold (first_failing (totals st).lines) ∷ page_fits st room ∷ []) ≡ None
+  no_second : first_some (not_tallied st ∷ option_map AssertionDoesNotHold (first_failing (totals st).lines) ∷ page_fits st room ∷ []) ≡ None
   no_second = (none_of (not_checked st) _ no_cause).1
 
   check_stands : (k : ℕ) × (last_accepted (since_change h) ≡ Some k)

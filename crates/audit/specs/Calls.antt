@@ -3,7 +3,7 @@ use Rattle.std.specs.Prelude.{◌≡◌, ℕ, zero, suc, ◌+◌, ◌-◌, ◌<�
 use Rattle.std.specs.Option.{unwrap_or, option_map}
 use Rattle.irv.specs.Ballots.{Slate, BallotGroup, Fits, ballots}
 use Rattle.irv.specs.Endings.{Ruling, FirstStanding, EndingsTried}
-use Rattle.irv.specs.Assertions.{first_of, judged, margin}
+use Rattle.irv.specs.Assertions.{judged, margin}
 use Rattle.ballot.specs.declared.refusal.Refusal.{Refusal}
 use Rattle.ballot.specs.declared.refusal.Refusal.TheVariants.{DossierFull, NumberNotLive, LimitOutOfRange, OtherContest, NotChecked, NotTallied, AssertionDoesNotHold, BufferTooShort}
 use Rattle.assertion.specs.Causes.{cause_refusal}
@@ -12,7 +12,7 @@ use Rattle.assertion.specs.declared.assertion.Assertion.{Assertion}
 use Rattle.search.specs.EndingValues.{listing}
 use Rattle.audit.specs.Entries.{Entry, Line, is_among, live_ruling}
 use Rattle.audit.specs.Pages.{page}
-use Rattle.audit.specs.States.{Opening, State, Totals, Standing, standing, unless_so, with_check, with_tally}
+use Rattle.audit.specs.States.{Opening, State, Totals, Standing, standing, first_some, unless_so, with_check, with_tally}
 use Rattle.audit.specs.declared.records.AssertionRecord.{AssertionRecord}
 use Rattle.audit.specs.declared.stage.Stage.TheVariants.{Plain}
 use Rattle.audit.specs.declared.verdict.Verdict.{Verdict}
@@ -50,7 +50,7 @@ most_entered = 256
 
 abbrev pub enter_reply : Standing → Assertion → Result ℕ Refusal
 enter_reply st a =
-    answered (first_of (option_map cause_refusal (judged st.opening.slate (written_kind a)) ∷ unless_so (nat_lt st.given most_entered) DossierFull ∷ [])) (st.given + 1)
+    answered (first_some (option_map cause_refusal (judged st.opening.slate (written_kind a)) ∷ unless_so (nat_lt st.given most_entered) DossierFull ∷ [])) (st.given + 1)
 
 abbrev pub not_live : Standing → ℕ → Option Refusal
 not_live st n = unless_so (is_among n st.live) NumberNotLive
@@ -111,7 +111,7 @@ abbrev pub page_fits : Standing → ℕ → Option Refusal
 page_fits st room = unless_so (nat_le (length (page_of st)) room) (BufferTooShort (length (page_of st)))
 
 abbrev pub plan_refusal : Standing → ℕ → Option Refusal
-plan_refusal st room = first_of (not_checked st ∷ not_tallied st ∷ option_map AssertionDoesNotHold (first_failing (totals st).lines) ∷ page_fits st room ∷ [])
+plan_refusal st room = first_some (not_checked st ∷ not_tallied st ∷ option_map AssertionDoesNotHold (first_failing (totals st).lines) ∷ page_fits st room ∷ [])
 
 abbrev pub plan_reply : Standing → ℕ → Result (List ℕ) Refusal
 plan_reply st room = answered (plan_refusal st room) (page_of st)
@@ -190,7 +190,7 @@ margin_and_top n [] = (pos 0, 0)
 margin_and_top n (l ∷ ls) = cond (l.entry.number == n) (l.margin, top_kind l.entry.assertion) (margin_and_top n ls)
 
 abbrev pub margin_reply : Standing → ℕ → Result (ℤ × ℕ) Refusal
-margin_reply st n = answered (first_of (not_live st n ∷ not_tallied st ∷ [])) (margin_and_top n (totals st).lines)
+margin_reply st n = answered (first_some (not_live st n ∷ not_tallied st ∷ [])) (margin_and_top n (totals st).lines)
 
 -- what a verdict of the code says
 abbrev pub finding : Verdict → Finding

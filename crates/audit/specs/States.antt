@@ -1,7 +1,6 @@
 -- What a dossier holds, and what of it a reply depends on.
 use Rattle.std.specs.Prelude.{◌≡◌, ℕ, Bool, true, false, cond, ◌&&◌, List, [], ◌∷◌, length, Some, None, Option, nat_le}
 use Rattle.irv.specs.Ballots.{Slate, slate, member}
-use Rattle.irv.specs.Assertions.{first_of}
 use Rattle.ballot.specs.declared.refusal.Refusal.{Refusal}
 use Rattle.ballot.specs.declared.refusal.Refusal.TheVariants.{CandidatesOutOfRange, WinnerNotCandidate, FactorOutOfRange}
 use Rattle.audit.specs.Entries.{Entry, Line, lines_from, entries}
@@ -21,6 +20,12 @@ opening n winner factor = record { slate = slate n; winner = winner; factor = fa
 abbrev pub most_factor : ℕ
 most_factor = 1000000
 
+-- the first that there is
+abbrev pub first_some : {X : Type 0} → List (Option X) → Option X
+first_some [] = None
+first_some (None ∷ xs) = first_some xs
+first_some (Some x ∷ xs) = Some x
+
 -- e refuses unless the fact is so
 abbrev pub unless_so : Bool → Refusal → Option Refusal
 unless_so fact e = cond fact None (Some e)
@@ -28,7 +33,7 @@ unless_so fact e = cond fact None (Some e)
 -- why nothing is opened: the first cause that fits
 abbrev pub opening_refusal : Opening → Option Refusal
 opening_refusal o =
-    first_of (unless_so (nat_le 2 o.slate.candidates && nat_le o.slate.candidates 16) CandidatesOutOfRange ∷ unless_so (member o.slate o.winner) WinnerNotCandidate ∷ unless_so (nat_le 1 o.factor && nat_le o.factor most_factor) FactorOutOfRange ∷ [])
+    first_some (unless_so (nat_le 2 o.slate.candidates && nat_le o.slate.candidates 16) CandidatesOutOfRange ∷ unless_so (member o.slate o.winner) WinnerNotCandidate ∷ unless_so (nat_le 1 o.factor && nat_le o.factor most_factor) FactorOutOfRange ∷ [])
 
 -- what a dossier holds: every assertion ever entered, in order; the stage; K of the last accepting check and the number
 -- of ballots of the last tally, each of which counts only under its mark

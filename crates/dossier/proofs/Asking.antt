@@ -3,12 +3,11 @@ use Rattle.std.proofs.Common.{◌≡◌, ℕ, ◌+◌, ◌<◌, ◌≤◌, Bool,
 use lib.Signed.{lt_z}
 use Rattle.std.proofs.lemmas.Bool.{and_parts, not-true, not-false, le-leb, lt-leb}
 use Rattle.std.specs.Option.{option_map}
-use Rattle.irv.specs.Assertions.{first_of}
 use Rattle.ballot.specs.declared.refusal.Refusal.{Refusal}
 use Rattle.ballot.specs.declared.refusal.Refusal.TheVariants.{NumberNotLive, NotChecked, NotTallied, AssertionDoesNotHold, BufferTooShort}
 use Rattle.assertion.specs.Kinds.{top_kind}
 use Rattle.audit.specs.Entries.{is_among, lines_from, entries}
-use Rattle.audit.specs.States.{State, Standing, Totals, standing, under, has_check, has_tally, unless_so}
+use Rattle.audit.specs.States.{State, Standing, Totals, standing, under, has_check, has_tally, first_some, unless_so}
 use Rattle.audit.specs.Calls.{answered, margin_reply, margin_and_top, first_failing, page_of, plan_reply}
 use Rattle.audit.specs.Pages.{page}
 use Rattle.audit.specs.declared.records.AssertionRecord.{AssertionRecord}
@@ -82,7 +81,7 @@ module _ (s : State) (room : ℕ) (checked : has_check s.stage ≡ true) (tallie
   pub page_held : page_of (standing s) ≡ bytes
   page_held = rw (checked, tallied) refl
 
-  by_records : plan_reply (standing s) room ≡ answered (first_of (option_map AssertionDoesNotHold (first_failing (lines_from 1 s.records)) ∷ unless_so (leb (length bytes) room) (BufferTooShort (length bytes)) ∷ [])) bytes
+  by_records : plan_reply (standing s) room ≡ answered (first_some (option_map AssertionDoesNotHold (first_failing (lines_from 1 s.records)) ∷ unless_so (leb (length bytes) room) (BufferTooShort (length bytes)) ∷ [])) bytes
   by_records = rw (checked, tallied) refl
 
   pub plan_fails : (n : ℕ) → first_failing (lines_from 1 s.records) ≡ Some n → plan_reply (standing s) room ≡ Err (AssertionDoesNotHold n)

@@ -1,13 +1,12 @@
 -- What a dossier stands for, and what its parts promise.
 use Rattle.std.specs.Prelude.{◌≡◌, ℕ, ◌+◌, ◌<◌, true, false, List, [], ◌∷◌, ◌++◌, length, take, drop, Some, None, Ok, Err, vec_items, Option, Result, MatchResult}
 use Rattle.irv.specs.Ballots.{slate}
-use Rattle.irv.specs.Assertions.{first_of}
 use Rattle.ballot.specs.declared.refusal.Refusal.{Refusal}
 use Rattle.ballot.specs.declared.refusal.Refusal.TheVariants.{NumberNotLive, NotChecked, NotTallied}
 use Rattle.audit.specs.Entries.{Line, lines_from, is_among}
 use Rattle.audit.specs.Pages.{page}
 use Rattle.audit.specs.Calls.{page_of}
-use Rattle.audit.specs.States.{Opening, State, standing, has_check, has_tally, with_check, with_tally, unless_so, opening_refusal}
+use Rattle.audit.specs.States.{Opening, State, standing, has_check, has_tally, with_check, with_tally, first_some, unless_so, opening_refusal}
 use Rattle.audit.specs.declared.records.AssertionRecord.{AssertionRecord}
 use Rattle.audit.specs.declared.stage.Stage.{Stage}
 use Rattle.audit.specs.declared.stage.Stage.TheVariants.{Plain}
@@ -42,7 +41,7 @@ stage_after Tallied g = with_tally g
 
 -- the first mark that a question lacks at a stage
 abbrev pub lacking : StageQuestion → Stage → Option Refusal
-lacking Plan g = first_of (unless_so (has_check g) NotChecked ∷ unless_so (has_tally g) NotTallied ∷ [])
+lacking Plan g = first_some (unless_so (has_check g) NotChecked ∷ unless_so (has_tally g) NotTallied ∷ [])
 lacking Margin g = unless_so (has_tally g) NotTallied
 
 abbrev pub at_stage : Stage → State → State
