@@ -1,5 +1,5 @@
 -- What it means to lay bytes into lent memory, as far as there is room.
-use Rattle.std.specs.Borrow.{Bor, MutBor}
+use Rattle.std.specs.Borrow.{MutBor}
 use Rattle.std.specs.Prelude.{◌≡◌, ℕ, zero, suc, ◌+◌, ◌-◌, ◌≤◌, ◌⊎◌, List, [], ◌∷◌, ◌++◌, length, take, drop, refl}
 use Rattle.std.proofs.Common.{sym, ap, ◌∙◌, inl, inr, add-zero, zero-add, add_assoc, arith}
 use Rattle.std.proofs.lemmas.List.{append_assoc, length-append, length-take, length-take-le, length-drop, take-append-drop, take_all, take_at, drop_at, drop-drop}
@@ -75,7 +75,7 @@ pub record LaidInto (x : MutBor (List ℕ)) (m : ℕ) (bs : List ℕ) (y : MutBo
 pub laid_as : {x y : MutBor (List ℕ)} {m n : ℕ} {bs : List ℕ} (cs : List ℕ) → take (length x.now - m) bs ≡ cs → y.ghost_name ≡ x.ghost_name → n ≡ m + length cs → y.now ≡ laid m cs x.now → LaidInto x m bs y n
 laid_as {x} {m = m} cs e lent count lies = record { lender = lent; len = count ∙ ap (λ l. m + length l) (sym e); lies = lies ∙ ap (λ l. laid m l x.now) (sym e) }
 
-pub laid_into_joins : {X : Type 0} (bytes : X → Bor (List ℕ)) (len : X → ℕ) → Joins (λ (x : X) bs y. LaidInto (bytes x) (len x) bs (bytes y) (len y))
+pub laid_into_joins : {X : Type 0} (bytes : X → MutBor (List ℕ)) (len : X → ℕ) → Joins (λ (x : X) bs y. LaidInto (bytes x) (len x) bs (bytes y) (len y))
 laid_into_joins {X} bytes len = record {
   none = λ x. laid_as [] (take_all (length (bytes x).now - len x) [] (omega arith)) refl (sym (add-zero (len x))) (sym (laid_none (len x) (bytes x).now));
   more = λ x y z bs cs p q.
@@ -92,7 +92,7 @@ laid_into_joins {X} bytes len = record {
 }
 
 -- bytes laid where none lay yet
-pub laid_at_start : {x y : Bor (List ℕ)} {bs : List ℕ} {n : ℕ} → LaidInto x 0 bs y n → length bs ≤ length x.now → (n ≡ length bs) × (y.now ≡ bs ++ drop (length bs) x.now)
+pub laid_at_start : {x y : MutBor (List ℕ)} {bs : List ℕ} {n : ℕ} → LaidInto x 0 bs y n → length bs ≤ length x.now → (n ≡ length bs) × (y.now ≡ bs ++ drop (length bs) x.now)
 laid_at_start {x} {bs = bs} p room =
     let all : take (length x.now - 0) bs ≡ bs = take_all (length x.now - 0) bs (omega arith) in
     (p.len ∙ ap (λ l. 0 + length l) all ∙ zero-add (length bs), p.lies ∙ ap (λ l. laid 0 l x.now) all ∙ ap (λ k. bs ++ drop k x.now) (zero-add (length bs)))

@@ -20,8 +20,8 @@ loop-candidate-preserved g c =
     let low = c.loop-candidate.auto.candidate in
     elim c.if-has.branch [
       | then-has w ↦
-          put_at joins w.sink-is w.is-first-is (put_next joins (members_from R 1 (i - 1)) i c.loop-candidate.invariant w.write-further.ensures (member_here R i low c.has.ensures w.if-has.true))
-      | else-has w ↦ put_at joins w.sink-is w.is-first-is (put_same joins c.loop-candidate.invariant (member_not_here R i low c.has.ensures w.if-has.false))
+          put_at joins w.sink-is w.is_first-is (put_next joins (members_from R 1 (i - 1)) i c.loop-candidate.invariant w.write_further.ensures (member_here R i low c.has.ensures w.if-has.true))
+      | else-has w ↦ put_at joins w.sink-is w.is_first-is (put_same joins c.loop-candidate.invariant (member_not_here R i low c.has.ensures w.if-has.false))
     ]
 
 pub returns : goal.returns

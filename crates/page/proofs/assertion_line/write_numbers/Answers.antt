@@ -13,7 +13,7 @@ pub loop-number-preserved : goal.loop-number-preserved
 loop-number-preserved g c =
     let vs = c.args.numbers.now in
     let i = c.loop-number.number-index in
-    put_next g.S.Sink.joins (take i vs) (get_or vs i 0) c.loop-number.invariant c.write-further.ensures (sym (take_more vs i 0 c.loop-number-test.true))
+    put_next g.S.Sink.joins (take i vs) (get_or vs i 0) c.loop-number.invariant c.write_further.ensures (sym (take_more vs i 0 c.loop-number-test.true))
 
 pub returns : goal.returns
 returns g c = put_as g.S.Sink.joins c.loop-number.invariant.bytes (ap (numbers_by 44) (take_all c.loop-number.number-index c.args.numbers.now c.loop-number-test.false))

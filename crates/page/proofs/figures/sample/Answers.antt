@@ -12,8 +12,8 @@ returns-then-margin-eq0 c =
     let none : (x + (2000 * c.args.margin - 1)) / (2000 * c.args.margin) ≡ 0 = ap (λ m. (x + (2000 * m - 1)) / (2000 * m)) c.if-margin-eq0.true ∙ div-zero (x + (0 - 1)) in
     omega (arith, none)
 
-pub overflow-add-needed : goal.overflow-add-needed
-overflow-add-needed c =
+pub overflow_add-needed : goal.overflow_add-needed
+overflow_add-needed c =
     let tops : c.from.result * c.from-2.result < 2 ^ 64 = mul-lt c.from.result c.from-2.result (2 ^ 32) (2 ^ 32) (omega arith) (omega arith) in
     let product : c.from.result * c.from-2.result * c.from-3.result < 2 ^ 96 = mul-lt (c.from.result * c.from-2.result) c.from-3.result (2 ^ 64) (2 ^ 32) tops (omega arith) in
     search rules

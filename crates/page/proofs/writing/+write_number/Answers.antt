@@ -9,6 +9,6 @@ pub returns : goal.returns
 returns g t c =
     let joins = g.S.Sink.joins in
     elim c.if-number-ge10.branch [
-      | then-number-ge10 w ↦ put_on joins w.write-number.ensures (put_from joins w.sink-is c.put.ensures) (sym (decimal_step c.args.number w.if-number-ge10.true (omega arith)))
+      | then-number-ge10 w ↦ put_on joins w.write_number.ensures (put_from joins w.sink-is c.put.ensures) (sym (decimal_step c.args.number w.if-number-ge10.true (omega arith)))
       | else-number-ge10 w ↦ put_as joins (put_from joins w.sink-is c.put.ensures) (ap (λ d. (48 + d) ∷ []) (mod-eq_of_lt w.if-number-ge10.false) ∙ sym (decimal_digit c.args.number w.if-number-ge10.false))
     ]

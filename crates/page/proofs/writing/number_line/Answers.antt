@@ -4,4 +4,4 @@ use Rattle.page.proofs.Putting.{put_on}
 use Rattle.page.proofs.writing.number_line.Goals as goal
 
 pub returns : goal.returns
-returns g c = put_on g.S.Sink.joins c.write-bytes.ensures (put_on g.S.Sink.joins c.write-number.ensures c.put.ensures refl) refl
+returns g c = put_on g.S.Sink.joins c.write_bytes.ensures (put_on g.S.Sink.joins c.write_number.ensures c.put.ensures refl) refl

@@ -28,4 +28,4 @@ returns-in-Found c =
 pub returns-in-NoSurvivor : goal.returns-in-NoSurvivor
 returns-in-NoSurvivor c =
     let n = c.args.self.now.contest.candidates in
-    record { answer = record { shown = tt; reply = (grind (arith, nat_tests), finds (slate n) (records_ruling n (vec_items c.args.self.now.records)) c.args.self.now.winner c.args.limit (NoSurvivor c.in-NoSurvivor.tried) c.in-NoSurvivor.ensures); after_is = c.go-on.ensures }; laws = every_history }
+    record { answer = record { shown = tt; reply = (grind (arith, nat_tests), finds (slate n) (records_ruling n (vec_items c.args.self.now.records)) c.args.self.now.winner c.args.limit (NoSurvivor c.in-NoSurvivor.tried) c.in-NoSurvivor.ensures); after_is = c.go_on.ensures }; laws = every_history }

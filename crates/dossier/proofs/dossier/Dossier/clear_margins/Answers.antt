@@ -12,25 +12,25 @@ use Rattle.dossier.proofs.dossier.Dossier.clear_margins.Goals as goal
 pub index-requires : goal.index-requires
 index-requires c = omega (arith, c.len-place-end.ensures, still_long cleared (state c.args.self.now) (state c.loop-place.self) (vec_items c.args.self.now.records) c.loop-place.place c.loop-place.invariant)
 
-pub keep-margin-requires : goal.keep-margin-requires
-keep-margin-requires c =
+pub keep_margin-requires : goal.keep_margin-requires
+keep_margin-requires c =
     let d = c.loop-place.self in
     let r = c.index.result.now in
-    let m = c.margin-before-margin.result in
+    let m = c.margin_before-margin.result in
     let long = still_long cleared (state c.args.self.now) (state d) (vec_items c.args.self.now.records) c.loop-place.place c.loop-place.invariant in
     let within : c.loop-place.place < length (vec_items d.records) = omega (arith, c.len-place-end.ensures, long) in
     let fits : SFits w64 m = search rules in
     let small = fine_cleared (slate d.contest.candidates) r (fine_read (slate d.contest.candidates) (vec_items d.records) c.loop-place.place r within c.index.ensures d.fine) in
-    (omega (arith, c.len-place-end.ensures, long), subst (λ x. nat_abs x ≤ most_value) (sym (to_z-of_z w64 m fits ∙ c.margin-before-margin.ensures)) small)
+    (omega (arith, c.len-place-end.ensures, long), subst (λ x. nat_abs x ≤ most_value) (sym (to_z-of_z w64 m fits ∙ c.margin_before-margin.ensures)) small)
 
 pub loop-place-preserved : goal.loop-place-preserved
 loop-place-preserved c =
     let d = c.args.self.now in
-    let m = c.margin-before-margin.result in
+    let m = c.margin_before-margin.result in
     let r = c.index.result.now in
     let fits : SFits w64 m = search rules in
     let within : c.loop-place.place < length (vec_items d.records) = omega (arith, c.len-place-end.ensures) in
-    next_turn cleared (state d) (state c.loop-place.self) (vec_items d.records) c.loop-place.place c.loop-place.invariant r within c.index.ensures (state c.keep-margin.new.self) (to_z w64 (of_z w64 m)) (ap (λ x. with_margin x r) (to_z-of_z w64 m fits ∙ c.margin-before-margin.ensures)) c.keep-margin.ensures
+    next_turn cleared (state d) (state c.loop-place.self) (vec_items d.records) c.loop-place.place c.loop-place.invariant r within c.index.ensures (state c.keep_margin.new.self) (to_z w64 (of_z w64 m)) (ap (λ x. with_margin x r) (to_z-of_z w64 m fits ∙ c.margin_before-margin.ensures)) c.keep_margin.ensures
 
 pub returns : goal.returns
 returns c =

@@ -8,8 +8,8 @@ use Rattle.dossier.specs.Tallies.{with_margin}
 use Rattle.dossier.proofs.Keeping.{fine_read, fine_margin, fine_set, set_changed}
 use Rattle.dossier.proofs.dossier.Dossier.keep_margin.Goals as goal
 
-pub invariant-of-self : goal.invariant-of-self
-invariant-of-self c =
+pub invariant_of-self : goal.invariant_of-self
+invariant_of-self c =
     let s = slate c.args.self.now.contest.candidates in
     let rs = vec_items c.args.self.now.records in
     let r = c.index-mut.result.now in

@@ -18,4 +18,4 @@ returns c =
     let few : length rs ≤ 256 = omega (arith, d.few) in
     let short : length (page_shown d) < 2 ^ 32 = short_page (slate d.contest.candidates) d.winner d.factor d.ballots d.endings (lines_from 1 rs) d.contest.proper.1 winner ballots endings (omega (arith, few_lines 1 rs)) (short_lines (slate d.contest.candidates) 1 rs d.fine (omega arith)) in
     let room : c.new-counted.result.bytes + length (page_shown d) < 2 ^ 64 = omega (arith, c.new-counted.ensures) in
-    omega (arith, c.bytes.ensures, c.new-counted.ensures, counted_exact c.write-page.ensures room)
+    omega (arith, c.bytes.ensures, c.new-counted.ensures, counted_exact c.write_page.ensures room)

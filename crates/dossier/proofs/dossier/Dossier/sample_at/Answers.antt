@@ -19,5 +19,5 @@ returns c =
     let r = c.index-entered.result.now in
     let within : c.args.place < length rs = omega (arith, c.requires) in
     let line = ap (λ ls. largest (map (sample_of d.factor d.ballots) ls)) (one_line rs c.args.place r within c.index-entered.ensures c.if-not-entered.false) in
-    let told = c.sample.ensures ∙ ap (λ t. sample d.factor t c.margin-size.result d.ballots) c.top.ensures ∙ ap (λ m. sample d.factor (top_kind r.assertion) m d.ballots) c.margin-size.ensures in
+    let told = c.sample.ensures ∙ ap (λ t. sample d.factor t c.margin_size.result d.ballots) c.top.ensures ∙ ap (λ m. sample d.factor (top_kind r.assertion) m d.ballots) c.margin_size.ensures in
     told ∙ sym (line ∙ alone (sample_of d.factor d.ballots (line_at (1 + c.args.place) r)))

@@ -5,6 +5,6 @@ use Rattle.dossier.proofs.dossier.Dossier.store_page.Goals as goal
 
 pub returns : goal.returns
 returns c =
-    let lender = sym c.write-page.ensures.lender in
-    let lies = (laid_at_start c.write-page.ensures c.requires).1 in
+    let lender = sym c.write_page.ensures.lender in
+    let lies = (laid_at_start c.write_page.ensures c.requires).1 in
     search rules

@@ -13,7 +13,7 @@ loop-place-preserved c =
     let i = c.loop-place.place in
     let f = sample_of d.factor d.ballots in
     let within : i < length rs = omega (arith, c.len-place-end.ensures) in
-    c.max-total.ensures ∙ ap (λ m. max m c.sample-at.result) c.loop-place.invariant ∙ ap (max (largest (map f (lines_from 1 (take i rs))))) c.sample-at.ensures
+    c.max-total.ensures ∙ ap (λ m. max m c.sample_at.result) c.loop-place.invariant ∙ ap (max (largest (map f (lines_from 1 (take i rs))))) c.sample_at.ensures
     ∙ largest_append f (lines_from 1 (take i rs)) (lines_from (1 + i) (take 1 (drop i rs))) ∙ ap (λ ls. largest (map f ls)) (lines_next rs i within)
 
 pub returns : goal.returns

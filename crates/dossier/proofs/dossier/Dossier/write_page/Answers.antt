@@ -13,5 +13,5 @@ returns g c =
     let d = c.args.self.now in
     let j = g.S.Sink.joins in
     let lines = flat_map (line_bytes d.factor d.ballots) (lines_from 1 (vec_items d.records)) in
-    put_on j c.number_line.ensures (put_on j c.number-line-2.ensures (put_on j c.number-line-3.ensures (put_on j c.write-records.ensures c.number-line-4.ensures refl) refl) refl)
+    put_on j c.number_line.ensures (put_on j c.number_line-2.ensures (put_on j c.number_line-3.ensures (put_on j c.write_records.ensures c.number_line-4.ensures refl) refl) refl)
     (ap (λ w. whole_page w c.from-2.result d.endings lines c.from-3.result) c.from.ensures ∙ ap (λ n. whole_page d.winner n d.endings lines c.from-3.result) c.from-2.ensures ∙ ap (whole_page d.winner d.ballots d.endings lines) (c.from-3.ensures ∙ c.total.ensures))

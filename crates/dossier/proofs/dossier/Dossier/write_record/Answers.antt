@@ -21,15 +21,15 @@ returns-then-not-entered g c =
     let within : c.args.place < length rs = omega (arith, c.requires) in
     put_as g.S.Sink.joins (g.S.Sink.joins.none c.args.sink.now) (sym (ap (flat_map (line_bytes d.factor d.ballots)) (no_line rs c.args.place c.index-entered.result.now within c.index-entered.ensures c.if-not-entered.true)))
 
-pub overflow-cast-part : goal.overflow-cast-part
-overflow-cast-part g c =
+pub overflow_cast-part : goal.overflow_cast-part
+overflow_cast-part g c =
     let d = c.args.self.now in
     let rs = vec_items d.records in
     let r = c.index-entered.result.now in
     let within : c.args.place < length rs = omega (arith, c.requires) in
     let fine = fine_read (slate d.contest.candidates) rs c.args.place r within c.index-entered.ensures d.fine in
-    let small : c.margin-size-margin.result ≤ most_value = omega (arith, c.margin-size-margin.ensures, leb-true (nat_abs r.margin) most_value (and_parts (fits (slate d.contest.candidates) r.assertion) (leb (nat_abs r.margin) most_value) fine).1) in
-    let low : c.share-part.result < 2 ^ 64 = omega (arith, c.share-part.ensures, share_small c.half.result c.margin-size-margin.result d.ballots small) in
+    let small : c.margin_size-margin.result ≤ most_value = omega (arith, c.margin_size-margin.ensures, leb-true (nat_abs r.margin) most_value (and_parts (fits (slate d.contest.candidates) r.assertion) (leb (nat_abs r.margin) most_value) fine).1) in
+    let low : c.share-part.result < 2 ^ 64 = omega (arith, c.share-part.ensures, share_small c.half.result c.margin_size-margin.result d.ballots small) in
     search rules
 
 pub returns : goal.returns
@@ -42,13 +42,13 @@ returns g c =
     let j = g.S.Sink.joins in
     let within : i < length rs = omega (arith, c.requires) in
     let m = nat_abs r.margin in
-    let margin : c.margin-size-margin.result ≡ m = c.margin-size-margin.ensures in
-    let part : c.share-part.result ≡ share (half_kind a) m d.ballots = c.share-part.ensures ∙ ap (λ h. share h c.margin-size-margin.result d.ballots) c.half.ensures ∙ ap (λ x. share (half_kind a) x d.ballots) margin in
+    let margin : c.margin_size-margin.result ≡ m = c.margin_size-margin.ensures in
+    let part : c.share-part.result ≡ share (half_kind a) m d.ballots = c.share-part.ensures ∙ ap (λ h. share h c.margin_size-margin.result d.ballots) c.half.ensures ∙ ap (λ x. share (half_kind a) x d.ballots) margin in
     let pulled : c.from.result ≡ sample d.factor (top_kind a) m d.ballots =
-    c.from.ensures ∙ c.sample-pulled.ensures ∙ ap (λ t. sample d.factor t c.margin-size-margin.result d.ballots) c.top.ensures ∙ ap (λ x. sample d.factor (top_kind a) x d.ballots) margin in
-    let lines : four_lines a (i + 1) c.margin-size-margin.result c.share-part.result c.from.result ≡ line_bytes d.factor d.ballots (line_at (1 + i) r) =
-    ap (λ n. four_lines a n c.margin-size-margin.result c.share-part.result c.from.result) (omega arith) ∙ ap (λ x. four_lines a (1 + i) x c.share-part.result c.from.result) margin
+    c.from.ensures ∙ c.sample-pulled.ensures ∙ ap (λ t. sample d.factor t c.margin_size-margin.result d.ballots) c.top.ensures ∙ ap (λ x. sample d.factor (top_kind a) x d.ballots) margin in
+    let lines : four_lines a (i + 1) c.margin_size-margin.result c.share-part.result c.from.result ≡ line_bytes d.factor d.ballots (line_at (1 + i) r) =
+    ap (λ n. four_lines a n c.margin_size-margin.result c.share-part.result c.from.result) (omega arith) ∙ ap (λ x. four_lines a (1 + i) x c.share-part.result c.from.result) margin
     ∙ ap (λ x. four_lines a (1 + i) m x c.from.result) part ∙ ap (four_lines a (1 + i) m (share (half_kind a) m d.ballots)) pulled in
     let one = ap (flat_map (line_bytes d.factor d.ballots)) (one_line rs i r within c.index-entered.ensures c.if-not-entered.false) in
-    put_on j c.assertion_line.ensures (put_on j c.number_line.ensures (put_on j c.number-line-2.ensures c.number-line-3.ensures refl) refl)
+    put_on j c.assertion_line.ensures (put_on j c.number_line.ensures (put_on j c.number_line-2.ensures c.number_line-3.ensures refl) refl)
     (lines ∙ sym (append-nil (line_bytes d.factor d.ballots (line_at (1 + i) r))) ∙ sym one)

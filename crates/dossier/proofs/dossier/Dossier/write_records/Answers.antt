@@ -15,7 +15,7 @@ loop-place-preserved g c =
     let i = c.loop-place.place in
     let f = line_bytes d.factor d.ballots in
     let within : i < length rs = omega (arith, c.len-place-end.ensures) in
-    put_on g.S.Sink.joins c.loop-place.invariant c.write-record.ensures (joined_append f (lines_from 1 (take i rs)) (lines_from (1 + i) (take 1 (drop i rs))) ∙ ap (flat_map f) (lines_next rs i within))
+    put_on g.S.Sink.joins c.loop-place.invariant c.write_record.ensures (joined_append f (lines_from 1 (take i rs)) (lines_from (1 + i) (take 1 (drop i rs))) ∙ ap (flat_map f) (lines_next rs i within))
 
 pub returns : goal.returns
 returns g c =
