@@ -12,8 +12,8 @@ use Rattle.dossier.proofs.dossier.Dossier.check.Goals as goal
 pub returns-then-limit-lt1 : goal.returns-then-limit-lt1
 returns-then-limit-lt1 c = record { answer = record { shown = tt; reply = (grind (arith, nat_tests), refl); after_is = refl }; laws = every_history }
 
-pub returns-then-limit-gt-MOST-ENDINGS : goal.returns-then-limit-gt-MOST-ENDINGS
-returns-then-limit-gt-MOST-ENDINGS c = record { answer = record { shown = tt; reply = (grind (arith, nat_tests), refl); after_is = refl }; laws = every_history }
+pub returns-then-limit-gt-MOST_ENDINGS : goal.returns-then-limit-gt-MOST_ENDINGS
+returns-then-limit-gt-MOST_ENDINGS c = record { answer = record { shown = tt; reply = (grind (arith, nat_tests), refl); after_is = refl }; laws = every_history }
 
 pub returns-in-Stopped : goal.returns-in-Stopped
 returns-in-Stopped c =

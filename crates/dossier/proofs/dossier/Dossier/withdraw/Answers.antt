@@ -10,13 +10,13 @@ use Rattle.dossier.specs.Fine.{fine_record, all_fine}
 use Rattle.dossier.proofs.Keeping.{fine_at, fine_set, set_changed}
 use Rattle.dossier.proofs.dossier.Dossier.withdraw.Goals as goal
 
-pub invariant_of-self : goal.invariant_of-self
-invariant_of-self c =
+pub invariant_of-self-clause-fine : goal.invariant_of-self-clause-fine
+invariant_of-self-clause-fine c =
     let s = slate c.args.self.now.contest.candidates in
     let rs = vec_items c.args.self.now.records in
     let i = c.in_ok-place.place in
-    let here : fine_record s c.index-mut.result.now ≡ true = ap (fine_record s) c.index-mut.ensures.value ∙ fine_at s rs i c.index-mut.result.now c.in_ok-place.ensures.1.1 c.args.self.now.fine in
-    (search rules, (search rules, (search rules, (search rules, (fine_set s rs i (ended c.index-mut.result.now) c.args.self.now.fine here, (search rules, (search rules, tt)))))))
+    let here : fine_record s c.index_mut.result.now ≡ true = ap (fine_record s) c.index_mut.ensures.value ∙ fine_at s rs i c.index_mut.result.now c.in_ok-place.ensures.1.1 c.args.self.now.fine in
+    fine_set s rs i (ended c.index_mut.result.now) c.args.self.now.fine here
 
 pub returns : goal.returns
 returns c =
@@ -24,7 +24,7 @@ returns c =
     let i = c.in_ok-place.place in
     let live = c.in_ok-place.ensures in
     let number : i ≡ c.args.number - 1 = omega (arith, live.1.0) in
-    let done : set rs i (ended c.index-mut.result.now) ≡ changed_at ended (c.args.number - 1) rs = ap (λ r. set rs i (ended r)) c.index-mut.ensures.value ∙ set_changed ended rs i c.index-mut.result.now live.1.1 ∙ ap (λ j. changed_at ended j rs) number in
+    let done : set rs i (ended c.index_mut.result.now) ≡ changed_at ended (c.args.number - 1) rs = ap (λ r. set rs i (ended r)) c.index_mut.ensures.value ∙ set_changed ended rs i c.index_mut.result.now live.1.1 ∙ ap (λ j. changed_at ended j rs) number in
     record {
       shown = tt;
       reply = sym (ap (λ b. answered (unless_so b NumberNotLive) tt) live.0);
