@@ -108,10 +108,10 @@ fn reply(dossier: &mut Dossier, call: Move) -> Result<u32, Fail> {
 }
 
 // Makes the moves on a new dossier, and holds each reply to the one that is expected.
-fn play(rt: &(impl Abort + AllocGlobal), moves: &[(Move, u32)]) -> Result<(), Fail> {
+fn play(rt: &(impl Abort + AllocGlobal), ways: &str, moves: &[(Move, u32)]) -> Result<(), Fail> {
     let mut dossier = Dossier::open(rt.alloc(), 3, 1, FACTOR)?;
     for (call, expected) in moves {
-        assert_eq!(rt; reply(&mut dossier, *call)?, *expected);
+        assert_eq!(rt; reply(&mut dossier, *call)?, *expected, "{ways}");
     }
     Ok(())
 }
@@ -166,7 +166,7 @@ fn wrong_ways_to_a_plan(rt: HostRuntime) -> Result<(), Fail> {
         (Move::Tally, DONE),
         (Move::Plan(512), 13),
     ];
-    play(&rt, &hole).note("a list with a hole")?;
+    play(&rt, "a list with a hole", &hole)?;
     let changed = [
         (a, DONE),
         (b, DONE),
@@ -188,7 +188,7 @@ fn wrong_ways_to_a_plan(rt: HostRuntime) -> Result<(), Fail> {
         (Move::Withdraw(2), 7),
         (Move::Check(100), REJECTED),
     ];
-    play(&rt, &changed).note("changed after a check and a tally")?;
+    play(&rt, "changed after a check and a tally", &changed)?;
     let other = [
         (a, DONE),
         (b, DONE),
@@ -203,7 +203,7 @@ fn wrong_ways_to_a_plan(rt: HostRuntime) -> Result<(), Fail> {
         (Move::Tally, DONE),
         (Move::Plan(512), DONE),
     ];
-    play(&rt, &other).note("other ballots")
+    play(&rt, "other ballots", &other)
 }
 
 #[test]
