@@ -1,5 +1,5 @@
 -- A check is exact, and has one reply only.
-use Rattle.std.proofs.Common.{◌≡◌, ℕ, ◌<◌, ◌≤◌, Bool, true, false, ◌&&◌, leb, List, [], ◌∷◌, Some, None, Ok, Err, Option, Result, sym, refl, ap, ◌∙◌, subst, arith}
+use Rattle.std.proofs.Common.{◌≡◌, ℕ, ◌<◌, ◌≤◌, leb, List, Some, None, Ok, Err, Option, Result, sym, refl, ap, ◌∙◌, subst, arith}
 use Rattle.std.proofs.lemmas.Bool.{false≢true, and_from, le-leb}
 use Rattle.irv.specs.Ballots.{Slate}
 use Rattle.irv.specs.Endings.{Ruling, Survivor, FirstStanding, EndingsTried}
@@ -8,8 +8,8 @@ use Rattle.irv.proofs.Searching.{one_survivor, one_count}
 use Rattle.ballot.specs.declared.refusal.Refusal.{Refusal}
 use Rattle.audit.specs.Entries.{Entry, rules_of_entries, live_ruling}
 use Rattle.audit.specs.States.{Standing}
-use Rattle.audit.specs.Calls.{Finding, accepts, rejects, stops, Says, Finds, CheckReply, in_limits, most_endings}
-use Rattle.audit.specs.Laws.{AllContradicted, ChecksExactly}
+use Rattle.audit.specs.Calls.{Finding, accepts, rejects, stops, Says, Finds, CheckReply, most_endings}
+use Rattle.audit.specs.Laws.{ChecksExactly}
 use Rattle.audit.proofs.Limiting.{first_limited}
 
 -- two findings at the same limit are the same

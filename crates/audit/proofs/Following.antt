@@ -1,16 +1,15 @@
 -- What a dossier holds follows its history: one lemma for each event.
-use Rattle.std.proofs.Common.{◌≡◌, ℕ, suc, ◌+◌, ◌-◌, ◌<◌, ◌≤◌, Bool, true, false, cond, List, [], ◌∷◌, ◌++◌, map, length, Some, None, Ok, Err, Option, sym, refl, ap, ◌∙◌, subst, ⊎_elim, arith}
+use Rattle.std.proofs.Common.{◌≡◌, ℕ, ◌+◌, ◌-◌, ◌≤◌, Bool, true, false, List, [], ◌∷◌, ◌++◌, map, length, Some, None, Ok, Err, Option, sym, refl, ap, ◌∙◌, subst, ⊎_elim, arith}
 use Rattle.std.proofs.lemmas.List.{length_push, length-map, map-append}
 use Rattle.std.proofs.lemmas.Bool.{false≢true, cases_lt}
-use Rattle.std.specs.Option.{option_map}
-use Rattle.irv.specs.Ballots.{Slate, BallotGroup, ballots}
+use Rattle.irv.specs.Ballots.{BallotGroup, ballots}
 use Rattle.ballot.specs.declared.refusal.Refusal.{Refusal}
 use Rattle.assertion.specs.declared.assertion.Assertion.{Assertion}
-use Rattle.audit.specs.Entries.{Entry, Line, lines_from, entries, is_among, without, line_on}
+use Rattle.audit.specs.Entries.{Entry, lines_from, entries, is_among, without, line_on}
 use Rattle.audit.specs.States.{Opening, State, Standing, Totals, standing, under, has_check, has_tally, with_check, with_tally, unless_so}
-use Rattle.audit.specs.Calls.{Call, enters, withdraws, checks, tallies, plans, ReplyTo, Replies, Answers, Finding, accepts, rejects, stops, answered, Event, entered, withdrawn, accepted, tallied, event, after, fresh, ended, changed_at, retallied}
-use Rattle.audit.specs.Histories.{Turn, Run, then, events, live_in, given_in, since_change, last_accepted, last_tallied, standing_by}
-use Rattle.audit.proofs.Numbering.{line_at, lines_append, without_ended, length_changed, lines_retallied, entries_on, among_below}
+use Rattle.audit.specs.Calls.{Call, enters, withdraws, checks, tallies, plans, ReplyTo, Replies, Answers, accepts, rejects, stops, answered, Event, entered, withdrawn, accepted, tallied, event, after, fresh, ended, changed_at, retallied}
+use Rattle.audit.specs.Histories.{Turn, Run, then, events, live_in, given_in, standing_by}
+use Rattle.audit.proofs.Numbering.{lines_append, without_ended, length_changed, lines_retallied, entries_on, among_below}
 use Rattle.audit.specs.declared.records.AssertionRecord.{AssertionRecord}
 use Rattle.audit.specs.declared.stage.Stage.{Stage}
 use Rattle.audit.specs.declared.stage.Stage.TheVariants.{Plain, Checked, Tallied, Ready}

@@ -1,9 +1,9 @@
 -- The laws of every history, put together.
-use Rattle.std.proofs.Common.{◌≡◌, ℕ, zero, suc, ◌+◌, ◌-◌, ◌*◌, ◌/◌, ◌%◌, ◌<◌, ◌≤◌, Ok, sym, ap, ◌∙◌, subst, mod-lt, div-lt_iff_lt-mul, add-mul, one-mul, div-add-mod', arith}
+use Rattle.std.proofs.Common.{◌≡◌, ℕ, ◌+◌, ◌-◌, ◌*◌, ◌<◌, ◌≤◌, sym, ◌∙◌, mod-lt, div-lt_iff_lt-mul, add-mul, one-mul, div-add-mod', arith}
 use Rattle.audit.specs.Pages.{rounded_up}
-use Rattle.audit.specs.States.{Opening, State, Standing}
-use Rattle.audit.specs.Calls.{Call, enters, withdraws, checks, tallies, plans, ReplyTo, Replies, Answers}
-use Rattle.audit.specs.Histories.{Turn, Run, events, standing_by}
+use Rattle.audit.specs.States.{Standing}
+use Rattle.audit.specs.Calls.{Call, enters, withdraws, checks, tallies, plans, ReplyTo, Replies}
+use Rattle.audit.specs.Histories.{events, standing_by}
 use Rattle.audit.specs.Laws.{EveryHistory}
 use Rattle.audit.proofs.Following.{follows, replies}
 use Rattle.audit.proofs.Checking.{one_check, checks_exactly}

@@ -1,8 +1,8 @@
 -- A rule that is limited to the steps of its contest contradicts the same orders: it has the same survivor.
-use Rattle.std.proofs.Common.{◌≡◌, ℕ, Bool, true, false, ◌&&◌, List, [], ◌∷◌, Some, None, Option, sym, refl, ap, ◌∙◌}
+use Rattle.std.proofs.Common.{◌≡◌, ℕ, true, ◌&&◌, List, [], ◌∷◌, Some, None, Option, sym, ap, ◌∙◌}
 use Rattle.irv.specs.Sets.{set_of}
 use Rattle.irv.specs.Ballots.{Slate, ranks}
-use Rattle.irv.specs.Endings.{Ruling, Stands, OnlySteps, Contradicted, Alternative, Survivor, FirstStanding}
+use Rattle.irv.specs.Endings.{Ruling, Stands, OnlySteps, Contradicted, Survivor, FirstStanding}
 use Rattle.irv.specs.Recounts.{is_step}
 use Rattle.irv.proofs.Lists.{rest_ranks}
 use Rattle.irv.proofs.Recounts.{recount_laws, order_step}

@@ -1,10 +1,10 @@
 -- Live is what was entered and not withdrawn since.
-use Rattle.std.proofs.Common.{◌≡◌, ℕ, zero, suc, ◌<◌, Bool, true, false, cond, not, eqb, ◌⊎◌, List, [], ◌∷◌, ◌++◌, length, get_or, filter, sym, refl, ap, ◌∙◌, subst, inl, inr, ⊎_elim, arith}
+use Rattle.std.proofs.Common.{◌≡◌, ℕ, zero, suc, Bool, true, false, cond, not, eqb, ◌⊎◌, List, [], ◌∷◌, ◌++◌, filter, sym, refl, ap, ◌∙◌, subst, inl, inr, ⊎_elim, arith}
 use Rattle.std.proofs.ByRecursion.{all-has, all_has_itself, all_kept_by, kept_by_passes, has_append_left, has_push, has_push_cases}
-use Rattle.std.proofs.lemmas.Bool.{eqb-true, eqb-false, ne_eqb, not-true}
+use Rattle.std.proofs.lemmas.Bool.{eqb-false, ne_eqb, not-true}
 use Rattle.std.specs.List.{ContainsAt}
 use Rattle.assertion.specs.declared.assertion.Assertion.{Assertion}
-use Rattle.audit.specs.Entries.{Entry, without}
+use Rattle.audit.specs.Entries.{Entry}
 use Rattle.audit.specs.Calls.{Event, entered, withdrawn, accepted, tallied}
 use Rattle.audit.specs.Histories.{live_in, IsLive}
 

@@ -1,18 +1,17 @@
 -- A number is given once, and a plan that is refused for a failing assertion names the lowest.
-use Rattle.std.proofs.Common.{◌≡◌, ℕ, ◌+◌, ◌<◌, ◌≤◌, Bool, true, false, cond, leb, List, [], ◌∷◌, map, length, ℤ, pos, ◌<ℤ◌, is_some, Some, None, Ok, Err, Option, unwrap_or, sym, refl, ap, ◌∙◌, subst, ⊎_elim, arith}
+use Rattle.std.proofs.Common.{◌≡◌, ℕ, ◌+◌, ◌<◌, ◌≤◌, Bool, true, false, cond, leb, List, [], ◌∷◌, map, length, ℤ, pos, ◌<ℤ◌, is_some, Some, None, Ok, Err, Option, unwrap_or, refl, ap, subst, ⊎_elim, arith}
 use lib.Signed.{lt_z}
 use Rattle.std.proofs.lemmas.Int.{ints}
 use Rattle.std.specs.Option.{option_map}
 use Rattle.std.specs.List.{ContainsAt}
 use Rattle.irv.specs.Ballots.{Slate, BallotGroup}
 use Rattle.irv.specs.Assertions.{Holds}
-use Rattle.ballot.specs.declared.refusal.Refusal.{Refusal}
 use Rattle.ballot.specs.declared.refusal.Refusal.TheVariants.{NotChecked, NotTallied, AssertionDoesNotHold, BufferTooShort}
 use Rattle.assertion.specs.Kinds.{value_kind, half_kind}
 use Rattle.assertion.specs.declared.assertion.Assertion.{Assertion}
-use Rattle.audit.specs.Entries.{Entry, Line, lines_from, entries, line_on}
-use Rattle.audit.specs.States.{Opening, State, Standing, standing, unless_so, first_some}
-use Rattle.audit.specs.Calls.{Call, enters, withdraws, checks, tallies, plans, ReplyTo, Replies, Answers, Finding, accepts, rejects, stops, answered, first_failing, totals, no_totals, page_of, Event, entered, withdrawn, accepted, tallied, event}
+use Rattle.audit.specs.Entries.{Entry, lines_from, entries, line_on}
+use Rattle.audit.specs.States.{Opening, State, unless_so, first_some}
+use Rattle.audit.specs.Calls.{Call, enters, withdraws, checks, tallies, plans, ReplyTo, Replies, Answers, accepts, rejects, stops, answered, first_failing, totals, no_totals, page_of, Event, entered, withdrawn, accepted, tallied, event}
 use Rattle.audit.specs.Histories.{Turn, Run, then, events, given_in, live_in, since_change, last_tallied, totals_on, standing_by}
 use Rattle.audit.specs.Laws.{LowestFailing}
 use Rattle.audit.specs.declared.records.AssertionRecord.{AssertionRecord}

@@ -1,9 +1,8 @@
 -- Some order elects another than a given candidate.
-use Rattle.std.proofs.Common.{◌≡◌, ℕ, zero, suc, ◌+◌, ◌<◌, ◌≤◌, Bool, true, false, ◌&&◌, ◌||◌, eqb, leb, List, [], ◌∷◌, ◌++◌, sym, refl, ap, ◌∙◌, ⊎_elim, arith}
+use Rattle.std.proofs.Common.{◌≡◌, ℕ, zero, suc, ◌≤◌, true, ◌&&◌, ◌||◌, eqb, leb, List, [], ◌∷◌, ◌++◌, sym, refl, ap, ◌∙◌, ⊎_elim, arith}
 use Rattle.std.proofs.lemmas.Bool.{cases_eq}
 use Rattle.std.proofs.lemmas.Bool.Decides.{nat_tests}
-use Rattle.irv.specs.Ballots.{Slate, slate, member, mem, ranks, Proper}
-use Rattle.irv.specs.Orders.{Order}
+use Rattle.irv.specs.Ballots.{Slate, slate, mem, ranks, Proper}
 use Rattle.irv.specs.Endings.{Alternative, elected}
 use Rattle.irv.proofs.Lists.{down, mem_down, ranks_down, mem_push, ranks_push}
 

@@ -1,6 +1,6 @@
 -- Where a plan is answered, every count of the ballots of the last tally elects the winner. Of the assertions this uses
 -- the law that every kind obeys, and nothing of the kinds.
-use Rattle.std.proofs.Common.{◌≡◌, ℕ, zero, suc, ◌+◌, ◌*◌, ◌<◌, ◌≤◌, Bool, true, false, cond, not, ◌&&◌, eqb, leb, ◌⊎◌, List, [], ◌∷◌, ◌++◌, map, length, ℤ, pos, ◌<ℤ◌, is_some, Some, None, Ok, Err, Option, unwrap_or, sym, refl, ap, ◌∙◌, subst, inl, inr, ⊎_elim, arith}
+use Rattle.std.proofs.Common.{◌≡◌, ℕ, ◌≤◌, Bool, true, false, cond, not, eqb, leb, List, [], ◌∷◌, map, length, ℤ, pos, ◌<ℤ◌, is_some, Some, None, Ok, Err, Option, unwrap_or, sym, refl, ap, ◌∙◌, subst, ⊎_elim, arith}
 use lib.Signed.{lt_z}
 use Rattle.std.proofs.ByRecursion.{All-push, all_kept_by}
 use Rattle.std.proofs.lemmas.Int.{ints}
@@ -8,21 +8,19 @@ use Rattle.std.proofs.lemmas.Bool.{eqb-true, and_parts, leb-true, cases_eq}
 use Rattle.std.specs.Option.{option_map}
 use Rattle.std.specs.List.{AllByRecursion}
 use Rattle.irv.specs.Ballots.{Slate, slate, BallotGroup, ballots, Fits, Proper}
-use Rattle.irv.specs.Orders.{CountOf}
-use Rattle.irv.specs.Endings.{Alternative, elected, FirstStanding}
+use Rattle.irv.specs.Endings.{elected, FirstStanding}
 use Rattle.irv.specs.Assertions.{judged, Holds, rules_any}
 use Rattle.irv.specs.AssertionLaws.{SoundAssorter}
 use Rattle.irv.proofs.Assertions.{none_ruled, all_stand}
-use Rattle.ballot.specs.declared.refusal.Refusal.{Refusal}
 use Rattle.ballot.specs.declared.refusal.Refusal.TheVariants.{NotTallied, AssertionDoesNotHold}
 use Rattle.assertion.specs.Causes.{cause_refusal}
 use Rattle.assertion.specs.Kinds.{written_kind, value_kind, top_kind, half_kind, rules_kind}
 use Rattle.assertion.specs.Sound.{any_kind_law}
 use Rattle.assertion.proofs.Summing.{sum_small}
-use Rattle.audit.specs.Entries.{Entry, Line, line_on, rules_of_entries, without}
+use Rattle.audit.specs.Entries.{Entry, line_on, rules_of_entries}
 use Rattle.audit.specs.Pages.{page}
-use Rattle.audit.specs.States.{Opening, State, Opens, Standing, standing, opening_refusal, unless_so, first_some}
-use Rattle.audit.specs.Calls.{Call, enters, withdraws, checks, tallies, plans, ReplyTo, Replies, Answers, Shown, Finding, accepts, rejects, stops, answered, first_failing, not_checked, not_tallied, page_fits, plan_refusal, totals, no_totals, Event, entered, withdrawn, accepted, tallied, event}
+use Rattle.audit.specs.States.{Opening, State, Standing, opening_refusal, first_some}
+use Rattle.audit.specs.Calls.{Call, enters, withdraws, checks, tallies, plans, ReplyTo, Replies, Answers, Shown, accepts, rejects, stops, first_failing, not_checked, not_tallied, page_fits, plan_refusal, totals, no_totals, Event, entered, withdrawn, accepted, tallied, event}
 use Rattle.audit.specs.Histories.{Turn, Run, then, events, live_in, since_change, last_accepted, last_tallied, totals_on, standing_by}
 use Rattle.audit.specs.Laws.{AllContradicted, PlanShows, WinnerCannotLose}
 use Rattle.audit.proofs.Following.{ok_answered, so_none, replies}

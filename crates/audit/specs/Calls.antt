@@ -1,5 +1,5 @@
 -- The five calls on a dossier and the question for a margin: what each replies, and what it changes.
-use Rattle.std.specs.Prelude.{◌≡◌, ℕ, zero, suc, ◌+◌, ◌-◌, ◌<◌, ◌≤◌, Bool, true, false, cond, not, ◌&&◌, ◌||◌, List, [], ◌∷◌, ◌++◌, map, length, ℤ, pos, is_some, Some, None, Ok, Err, Option, Result, ◌==◌, int_lt, nat_le, nat_lt}
+use Rattle.std.specs.Prelude.{◌≡◌, ℕ, zero, suc, ◌+◌, ◌-◌, ◌<◌, ◌≤◌, Bool, true, false, cond, ◌&&◌, List, [], ◌∷◌, ◌++◌, map, length, ℤ, pos, is_some, Some, None, Ok, Err, Option, Result, ◌==◌, int_lt, nat_le, nat_lt}
 use Rattle.std.specs.Option.{unwrap_or, option_map}
 use Rattle.irv.specs.Ballots.{Slate, BallotGroup, Fits, ballots}
 use Rattle.irv.specs.Endings.{Ruling, FirstStanding, EndingsTried}
@@ -10,9 +10,9 @@ use Rattle.assertion.specs.Causes.{cause_refusal}
 use Rattle.assertion.specs.Kinds.{written_kind, value_kind, top_kind, half_kind}
 use Rattle.assertion.specs.declared.assertion.Assertion.{Assertion}
 use Rattle.search.specs.EndingValues.{listing}
-use Rattle.audit.specs.Entries.{Entry, Line, is_among, live_ruling}
+use Rattle.audit.specs.Entries.{Line, is_among, live_ruling}
 use Rattle.audit.specs.Pages.{page}
-use Rattle.audit.specs.States.{Opening, State, Totals, Standing, standing, first_some, unless_so, with_check, with_tally}
+use Rattle.audit.specs.States.{State, Totals, Standing, standing, first_some, unless_so, with_check, with_tally}
 use Rattle.audit.specs.declared.records.AssertionRecord.{AssertionRecord}
 use Rattle.audit.specs.declared.stage.Stage.TheVariants.{Plain}
 use Rattle.audit.specs.declared.verdict.Verdict.{Verdict}

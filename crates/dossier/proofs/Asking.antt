@@ -1,13 +1,13 @@
 -- What a dossier replies to a question under the marks that it needs.
-use Rattle.std.proofs.Common.{◌≡◌, ℕ, ◌+◌, ◌<◌, ◌≤◌, Bool, true, false, cond, not, ◌&&◌, leb, List, [], ◌∷◌, length, get_or, drop, pos, is_some, Some, None, Ok, Err, Option, Result, unwrap_or, sym, refl, ap, ◌∙◌, arith}
+use Rattle.std.proofs.Common.{◌≡◌, ℕ, ◌+◌, ◌<◌, ◌≤◌, Bool, true, false, cond, not, ◌&&◌, leb, List, [], ◌∷◌, length, get_or, drop, pos, Some, None, Ok, Err, sym, refl, ap, ◌∙◌, arith}
 use lib.Signed.{lt_z}
 use Rattle.std.proofs.lemmas.Bool.{and_parts, not-true, not-false, le-leb, lt-leb}
 use Rattle.std.specs.Option.{option_map}
 use Rattle.ballot.specs.declared.refusal.Refusal.{Refusal}
-use Rattle.ballot.specs.declared.refusal.Refusal.TheVariants.{NumberNotLive, NotChecked, NotTallied, AssertionDoesNotHold, BufferTooShort}
+use Rattle.ballot.specs.declared.refusal.Refusal.TheVariants.{NotChecked, NotTallied, AssertionDoesNotHold, BufferTooShort}
 use Rattle.assertion.specs.Kinds.{top_kind}
 use Rattle.audit.specs.Entries.{is_among, lines_from, entries}
-use Rattle.audit.specs.States.{State, Standing, Totals, standing, under, has_check, has_tally, first_some, unless_so}
+use Rattle.audit.specs.States.{State, standing, has_check, has_tally, first_some, unless_so}
 use Rattle.audit.specs.Calls.{answered, margin_reply, margin_and_top, first_failing, page_of, plan_reply}
 use Rattle.audit.specs.Pages.{page}
 use Rattle.audit.specs.declared.records.AssertionRecord.{AssertionRecord}

@@ -1,10 +1,9 @@
 -- The records of a dossier stay fine: with one more, with one ended, with one tallied.
-use Rattle.std.proofs.Common.{◌≡◌, ℕ, zero, suc, ◌+◌, ◌<◌, ◌≤◌, Bool, true, false, not, ◌&&◌, leb, List, [], ◌∷◌, ◌++◌, length, get_or, set, ℤ, nat_abs, is_some, Some, None, Option, sym, refl, ap, ◌∙◌, subst, arith}
+use Rattle.std.proofs.Common.{◌≡◌, ℕ, zero, suc, ◌<◌, ◌≤◌, true, not, leb, List, [], ◌∷◌, ◌++◌, length, get_or, set, ℤ, nat_abs, is_some, Some, None, Option, sym, refl, ap, ◌∙◌, arith}
 use Rattle.std.proofs.lemmas.List.{get_or_default}
-use Rattle.std.proofs.lemmas.Bool.{and_parts, and_from, leb-true, le-leb}
+use Rattle.std.proofs.lemmas.Bool.{and_parts, and_from, le-leb}
 use Rattle.irv.specs.Ballots.{Slate}
 use Rattle.irv.specs.Assertions.{judged}
-use Rattle.assertion.specs.Causes.{cause_meant}
 use Rattle.assertion.specs.Kinds.{written_kind}
 use Rattle.assertion.specs.Sums.{most_value}
 use Rattle.assertion.specs.declared.assertion.Assertion.{Assertion}

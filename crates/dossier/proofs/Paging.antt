@@ -1,10 +1,10 @@
 -- The lines of a page, record by record.
-use Rattle.std.proofs.Common.{◌≡◌, ℕ, suc, ◌+◌, ◌*◌, ◌^◌, ◌<◌, ◌≤◌, max, Bool, true, false, cond, leb, List, [], ◌∷◌, ◌++◌, map, length, get_or, take, drop, nat_abs, codes, sym, refl, ap, ◌∙◌, div-le_self, arith}
+use Rattle.std.proofs.Common.{◌≡◌, ℕ, suc, ◌+◌, ◌*◌, ◌^◌, ◌<◌, ◌≤◌, max, true, false, cond, leb, List, [], ◌∷◌, ◌++◌, map, length, get_or, take, drop, nat_abs, codes, sym, refl, ap, ◌∙◌, div-le_self, arith}
 use Rattle.std.proofs.lemmas.List.{append_assoc, drop_more}
 use Rattle.std.proofs.lemmas.Bool.{and_parts, leb-true}
 use Rattle.std.specs.List.{flat_map, AllByRecursion}
 use Rattle.irv.specs.Ballots.{Slate}
-use Rattle.audit.specs.Entries.{Line, lines_from}
+use Rattle.audit.specs.Entries.{lines_from}
 use Rattle.assertion.specs.Sums.{most_value}
 use Rattle.assertion.specs.declared.assertion.Assertion.{Assertion}
 use Rattle.audit.specs.Pages.{share, number_line, assertion_line, largest}

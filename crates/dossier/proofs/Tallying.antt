@@ -1,5 +1,5 @@
 -- The records of a dossier while their margins grow, group by group.
-use Rattle.std.proofs.Common.{◌≡◌, ℕ, zero, suc, ◌+◌, ◌*◌, ◌<◌, ◌≤◌, Bool, true, false, cond, ◌&&◌, leb, List, [], ◌∷◌, ◌++◌, map, length, get_or, take, drop, set, ℤ, pos, ◌+ℤ◌, ◌-ℤ◌, nat_abs, None, sym, refl, ap, ◌∙◌, subst, add-zero, suc-add, mul-zero, mul-add, arith}
+use Rattle.std.proofs.Common.{◌≡◌, ℕ, zero, suc, ◌+◌, ◌*◌, ◌<◌, ◌≤◌, true, false, cond, leb, List, [], ◌∷◌, ◌++◌, map, length, get_or, take, drop, ℤ, pos, ◌+ℤ◌, ◌-ℤ◌, nat_abs, None, sym, refl, ap, ◌∙◌, add-zero, suc-add, mul-zero, mul-add, arith}
 use borrow.Author.Differences.{abs_is}
 use Rattle.std.proofs.lemmas.List.{take_all, drop_all, take_more, get_or-drop, get_or-map, length-map, append-nil}
 use Rattle.std.proofs.lemmas.Int.{ints}

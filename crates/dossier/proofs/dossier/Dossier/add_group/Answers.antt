@@ -1,5 +1,5 @@
 -- One record after the other takes the group up.
-use Rattle.std.proofs.Common.{◌≡◌, ◌<◌, ◌≤◌, length, nat_abs, vec_items, sym, refl, ap, ◌∙◌, subst, arith, w64, SFits, to_z, of_z, rules}
+use Rattle.std.proofs.Common.{◌<◌, ◌≤◌, length, nat_abs, vec_items, sym, ap, ◌∙◌, subst, arith, w64, SFits, to_z, of_z, rules}
 use Rattle.std.proofs.lemmas.Int.{to_z-of_z}
 use Rattle.ballot.specs.Values.{group_value}
 use Rattle.irv.specs.Ballots.{slate}

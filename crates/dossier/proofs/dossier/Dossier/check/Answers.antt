@@ -1,9 +1,8 @@
 -- The finding of the search, and the laws of every history.
-use Rattle.std.proofs.Common.{◌≡◌, true, false, vec_items, refl, arith, rules}
+use Rattle.std.proofs.Common.{vec_items, refl, arith}
 use Rattle.std.proofs.lemmas.Bool.Decides.{nat_tests}
 use Rattle.irv.specs.Ballots.{slate}
 use Rattle.search.specs.declared.answer.Answer.TheVariants.{Stopped, Found, NoSurvivor}
-use Rattle.audit.specs.Calls.{in_limits}
 use Rattle.audit.proofs.Histories.{every_history}
 use Rattle.dossier.specs.Rules.{records_ruling}
 use Rattle.dossier.proofs.Finding.{finds}

@@ -1,5 +1,5 @@
 -- One record after the other is cleared.
-use Rattle.std.proofs.Common.{◌≡◌, ◌<◌, ◌≤◌, length, nat_abs, vec_items, sym, refl, ap, ◌∙◌, subst, arith, w64, SFits, to_z, of_z, rules}
+use Rattle.std.proofs.Common.{◌<◌, ◌≤◌, length, nat_abs, vec_items, sym, ap, ◌∙◌, subst, arith, w64, SFits, to_z, of_z, rules}
 use Rattle.std.proofs.lemmas.Int.{to_z-of_z}
 use Rattle.irv.specs.Ballots.{slate}
 use Rattle.assertion.specs.Sums.{most_value}

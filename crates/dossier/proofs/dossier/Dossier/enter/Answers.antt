@@ -1,5 +1,5 @@
 -- The record is fine, since no cause was found.
-use Rattle.std.proofs.Common.{◌≡◌, true, vec_items, sym, refl, ap, ◌∙◌, arith, rules}
+use Rattle.std.proofs.Common.{◌≡◌, true, vec_items, sym, refl, ap, ◌∙◌}
 use Rattle.std.proofs.lemmas.Bool.{and_from}
 use Rattle.irv.specs.Ballots.{slate}
 use Rattle.audit.specs.Calls.{fresh}

@@ -1,5 +1,5 @@
 -- The loop stops at the first record that fails.
-use Rattle.std.proofs.Common.{◌≡◌, ◌+◌, ◌<◌, length, Some, vec_items, sym, ap, ◌∙◌, arith}
+use Rattle.std.proofs.Common.{◌+◌, ◌<◌, length, Some, vec_items, sym, ap, ◌∙◌, arith}
 use Rattle.std.proofs.lemmas.List.{at_drop_all}
 use Rattle.audit.specs.Entries.{lines_from}
 use Rattle.audit.specs.Calls.{first_failing}

@@ -1,5 +1,5 @@
 -- One record has another margin, and stays fine.
-use Rattle.std.proofs.Common.{◌<◌, ◌≤◌, length, set, nat_abs, vec_items, sym, ap, ◌∙◌, subst, arith, w64, to_z, of_z, rules}
+use Rattle.std.proofs.Common.{◌<◌, ◌≤◌, length, set, nat_abs, vec_items, sym, ap, ◌∙◌, subst, arith, w64, to_z, of_z}
 use Rattle.std.proofs.lemmas.Int.{to_z-of_z}
 use Rattle.irv.specs.Ballots.{slate}
 use Rattle.assertion.specs.Sums.{most_value}

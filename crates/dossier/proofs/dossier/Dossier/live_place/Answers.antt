@@ -1,5 +1,5 @@
 -- A number is live where the record at its place is.
-use Rattle.std.proofs.Common.{◌≡◌, ◌+◌, ◌-◌, ◌<◌, ◌≤◌, length, vec_items, sym, refl, ap, ◌∙◌, arith}
+use Rattle.std.proofs.Common.{◌-◌, ◌<◌, length, vec_items, sym, refl, ap, ◌∙◌, arith}
 use Rattle.audit.specs.Entries.{is_among, entries, lines_from}
 use Rattle.audit.proofs.Numbering.{among_below, among_at, among_past}
 use Rattle.dossier.proofs.dossier.Dossier.live_place.Goals as goal

@@ -1,5 +1,5 @@
 -- The page is short, so that the count is exact.
-use Rattle.std.proofs.Common.{◌≡◌, ◌+◌, ◌^◌, ◌<◌, ◌≤◌, length, vec_items, sym, refl, ap, ◌∙◌, subst, arith, rules}
+use Rattle.std.proofs.Common.{◌+◌, ◌^◌, ◌<◌, ◌≤◌, length, vec_items, arith, rules}
 use Rattle.irv.specs.Ballots.{slate}
 use Rattle.audit.specs.Entries.{lines_from}
 use Rattle.page.specs.Counting.{counted_exact}

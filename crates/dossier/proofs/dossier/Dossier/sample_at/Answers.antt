@@ -1,5 +1,5 @@
 -- The sample of the line, if there is one.
-use Rattle.std.proofs.Common.{◌≡◌, ◌+◌, ◌<◌, map, length, vec_items, sym, refl, ap, ◌∙◌, arith}
+use Rattle.std.proofs.Common.{◌+◌, ◌<◌, map, length, vec_items, sym, ap, ◌∙◌, arith}
 use Rattle.audit.specs.Pages.{largest, sample_of, sample}
 use Rattle.assertion.specs.Kinds.{top_kind}
 use Rattle.audit.proofs.Numbering.{line_at}

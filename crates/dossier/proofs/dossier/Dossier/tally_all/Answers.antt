@@ -7,7 +7,6 @@ use Rattle.ballot.specs.Values.{group_value}
 use Rattle.dossier.specs.Dossiers.{state}
 use Rattle.dossier.specs.Tallies.{on_groups}
 use Rattle.dossier.proofs.Tallying.{taken_more, few_taken, from_cleared, on_none, on_more, fine_more}
-use Rattle.dossier.proofs.dossier.Dossier.tally_all.Given as given
 use Rattle.dossier.proofs.dossier.Dossier.tally_all.Goals as goal
 
 pub loop-group-init : goal.loop-group-init

@@ -1,12 +1,12 @@
 -- One record is ended, and stays fine.
-use Rattle.std.proofs.Common.{◌≡◌, ◌-◌, ◌<◌, true, length, get_or, set, Ok, vec_items, sym, refl, ap, ◌∙◌, arith, rules}
+use Rattle.std.proofs.Common.{◌≡◌, ◌-◌, true, set, vec_items, sym, ap, ◌∙◌, arith}
 use Rattle.irv.specs.Ballots.{slate}
 use Rattle.audit.specs.Calls.{ended, changed_at, answered}
 use Rattle.audit.specs.States.{unless_so}
 use Rattle.ballot.specs.declared.refusal.Refusal.TheVariants.{NumberNotLive}
 use Rattle.audit.specs.declared.stage.Stage.TheVariants.{Plain}
 use Rattle.dossier.specs.Dossiers.{state, at_stage, holding}
-use Rattle.dossier.specs.Fine.{fine_record, all_fine}
+use Rattle.dossier.specs.Fine.{fine_record}
 use Rattle.dossier.proofs.Keeping.{fine_at, fine_set, set_changed}
 use Rattle.dossier.proofs.dossier.Dossier.withdraw.Goals as goal
 

@@ -1,5 +1,5 @@
 -- The parts of the page, one after the other.
-use Rattle.std.proofs.Common.{◌≡◌, map, vec_items, sym, refl, ap, ◌∙◌}
+use Rattle.std.proofs.Common.{vec_items, refl, ap, ◌∙◌}
 use Rattle.std.specs.List.{flat_map}
 use Rattle.audit.specs.Entries.{lines_from}
 use Rattle.audit.specs.Pages.{page, line_bytes}

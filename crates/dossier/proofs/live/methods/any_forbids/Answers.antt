@@ -1,5 +1,5 @@
 -- The loop stops at the first record that forbids the step.
-use Rattle.std.proofs.Common.{◌≡◌, sym, ◌∙◌}
+use Rattle.std.proofs.Common.{sym, ◌∙◌}
 use Rattle.ballot.specs.Sets.{members}
 use Rattle.std.proofs.lemmas.List.{at_drop_all}
 use Rattle.dossier.proofs.Ruling.{any_forbids, any_rules, forbids_here, forbids_later}
