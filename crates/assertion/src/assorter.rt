@@ -27,6 +27,9 @@ pub trait Assorter {
 
     ghost rules: { Self → Ruling };
 
+    // One that fits its contest keeps within its bounds, and where it holds it rules out rightly.
+    ghost sound: { (x : Self) (s : Slate) → judged s (written x) ≡ None → SoundAssorter s (value x) (top x) (half x) (rules x) };
+
     // What it is worth on a ballot with this ranking.
     fn value(&self, ranking: &Ranking) -> u32
         ensures { result ≡ value self.now (ranked ranking.now) };
@@ -46,7 +49,4 @@ pub trait Assorter {
     // The first cause why it does not fit the contest, if there is one.
     fn judge(&self, contest: Contest) -> Option<Cause>
         ensures { cause_meant result ≡ judged (contest_slate contest) (written self.now) };
-
-    // One that fits its contest keeps within its bounds, and where it holds it rules out rightly.
-    ghost sound: { (x : Self) (s : Slate) → judged s (written x) ≡ None → SoundAssorter s (value x) (top x) (half x) (rules x) };
 }

@@ -1,5 +1,5 @@
 // Sets of candidates.
-ghost use Rattle.std.specs.Prelude.{◌≡◌, true, false, if◌then◌else◌};
+ghost use Rattle.std.specs.Prelude.{◌≡◌, if◌then◌else◌};
 ghost use Rattle.irv.specs.Sets.{empty, has, with, within};
 ghost use Rattle.ballot.specs.Sets.{members, in_range, Removed};
 

@@ -1,8 +1,7 @@
 // What hands out ballots, group by group.
-ghost use Rattle.std.specs.Prelude.{◌≡◌, ℕ, ◌+◌, ◌<◌, List, length, MatchOption};
+ghost use Rattle.std.specs.Prelude.{◌≡◌, ℕ, List};
 ghost use Rattle.irv.specs.Ballots.{Slate, slate, BallotGroup, ballots};
 ghost use Rattle.ballot.specs.Sources.{SoundSource, HandsOut};
-ghost use Rattle.ballot.specs.Values.{group_slate, group_value};
 
 use crate::group::Group;
 

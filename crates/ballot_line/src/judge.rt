@@ -1,5 +1,5 @@
 // A group off the front of a text, judged by its form, its count and its candidates, in this order.
-ghost use Rattle.std.specs.Prelude.{◌≡◌, ◌+◌, ◌*◌, ◌^◌, ◌<◌, ◌≤◌, [], ◌∷◌, ◌++◌, length, take, decimal, MatchResult};
+ghost use Rattle.std.specs.Prelude.{◌≡◌, ◌*◌, ◌^◌, ◌<◌, ◌≤◌, [], ◌∷◌, ◌++◌, length, take, decimal, MatchResult};
 ghost use Rattle.std.specs.List.{flat_map};
 ghost use Rattle.forms.specs.Written.{comma};
 ghost use Rattle.ballot.specs.Values.{contest_slate};

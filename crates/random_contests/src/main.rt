@@ -9,7 +9,6 @@ use ballot::contest::Contest;
 use ballot::group::Group;
 use ballot::lent::LentGroups;
 use ballot::ranking::Ranking;
-use ballot::source::BallotSource;
 use brute::Backwards;
 use elimination::count::Count;
 use elimination::counting::count_ballots;

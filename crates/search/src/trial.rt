@@ -38,8 +38,8 @@ pub(crate) fn try_with<R: Rule>(
     candidate: u32,
     tried: u64,
 ) -> Trial
-    requires ending_len_bound { length (listing ending) < (R.contest rule.old).candidates }
-    requires le_candidate { (1 ≤ candidate) × (candidate ≤ (R.contest rule.old).candidates) }
+    requires room { length (listing ending) < (R.contest rule.old).candidates }
+    requires candidate_in_contest { (1 ≤ candidate) × (candidate ≤ (R.contest rule.old).candidates) }
     ensures trial { TrialOf (R.contest rule.old) (R.ruling rule.old) winner limit tried (listing ending) candidate result }
     ensures same_contest { R.contest rule.new ≡ R.contest rule.old }
     ensures same_ruling { R.ruling rule.new ≡ R.ruling rule.old }

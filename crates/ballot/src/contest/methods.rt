@@ -1,5 +1,5 @@
 // Opening a contest, and who stands in it.
-ghost use Rattle.std.specs.Prelude.{◌≡◌, ℕ, ◌+◌, ◌≤◌, MatchResult};
+ghost use Rattle.std.specs.Prelude.{◌≡◌, ℕ, MatchResult};
 ghost use Rattle.irv.specs.Ballots.{slate, member, Proper};
 ghost use Rattle.irv.specs.Sets.{has};
 ghost use Rattle.ballot.specs.Sets.{members};

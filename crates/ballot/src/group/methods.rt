@@ -1,6 +1,5 @@
 // Making a group, and reading it.
 ghost use Rattle.std.specs.Prelude.{◌≡◌, ◌≤◌, MatchResult};
-ghost use Rattle.ballot.specs.Values.{ranked, ranking_slate, group_slate, group_value};
 ghost use Rattle.ballot.specs.declared.refusal.Refusal.TheVariants.{CountOutOfRange};
 
 use crate::group::Group;

@@ -1,10 +1,10 @@
 // Opening lent groups, and handing them out.
-ghost use Rattle.std.specs.Prelude.{◌≡◌, ◌<◌, ◌≤◌, true, false, map, MatchResult};
+ghost use Rattle.std.specs.Prelude.{◌≡◌, ◌<◌, ◌≤◌, map, MatchResult};
 ghost use Rattle.irv.specs.Ballots.{ballots, most_ballots};
 ghost use Rattle.ballot.specs.Sources.{LentRefused};
 ghost use Rattle.ballot.specs.Values.{contest_slate, group_value, all_of_contest};
 ghost use Rattle.ballot.specs.LentSound.{lent_sound};
-ghost use Rattle.ballot.specs.declared.refusal.Refusal.TheVariants.{CountOutOfRange, OtherContest};
+ghost use Rattle.ballot.specs.declared.refusal.Refusal.TheVariants.{CountOutOfRange};
 
 use crate::contest::Contest;
 use crate::group::Group;

@@ -1,5 +1,5 @@
 // Opening groups text, and handing out its groups.
-ghost use Rattle.std.specs.Prelude.{◌≡◌, MatchResult};
+ghost use Rattle.std.specs.Prelude.{MatchResult};
 ghost use Rattle.ballot.specs.Values.{contest_slate};
 ghost use Rattle.forms.specs.Written.{group_lines};
 ghost use Rattle.ballot_text.specs.Fields.{FieldsOfLine, NoSuchLine};

@@ -1,5 +1,5 @@
 // The fields of one line of an opened text.
-ghost use Rattle.std.specs.Prelude.{◌≡◌, ℕ, MatchResult};
+ghost use Rattle.std.specs.Prelude.{MatchResult};
 ghost use Rattle.ballot_text.specs.Fields.{FieldsOfLine, NoSuchLine};
 
 use crate::lines::BallotLines;

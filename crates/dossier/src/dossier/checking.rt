@@ -1,5 +1,4 @@
 // Checking the live assertions.
-ghost use Rattle.std.specs.Prelude.{◌≡◌};
 ghost use Rattle.irv.specs.Ballots.{slate};
 ghost use Rattle.search.specs.Searches.{Searched};
 ghost use Rattle.audit.specs.Calls.{checks, Answers, said};

@@ -1,5 +1,5 @@
 // Tallying the live assertions.
-ghost use Rattle.std.specs.Prelude.{◌≡◌, ◌^◌, ◌<◌, ◌≤◌, true, map, length, pos, ◌-ℤ◌, vec_len, OnErr, unsigned_abs};
+ghost use Rattle.std.specs.Prelude.{◌≡◌, ◌^◌, ◌<◌, ◌≤◌, true, map, pos, ◌-ℤ◌, vec_len, OnErr, unsigned_abs};
 ghost use Rattle.irv.specs.Ballots.{slate};
 ghost use Rattle.ballot.specs.Values.{group_value};
 ghost use Rattle.assertion.specs.Sums.{most_value};

@@ -1,5 +1,4 @@
 // What the ballots rule out.
-ghost use Rattle.std.specs.Prelude.{◌≡◌};
 ghost use Rattle.irv.specs.Recounts.{ballots_ruling};
 ghost use Rattle.elimination.specs.Rules.{ballots_sound, SameLent, same_lent_chains};
 

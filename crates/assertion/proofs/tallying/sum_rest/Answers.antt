@@ -37,7 +37,7 @@ next_sum g c =
 -- all that is left at the start is small, by the law of the assertion
 small : (g : given.Over) (a : g.row.A.Denot) (src : g.row.S.Denot) → judged (g.S.BallotSource.contest src) (g.A.Assorter.written a) ≡ None → value_sum (g.A.Assorter.value a) (g.S.BallotSource.contest src) (drop (g.S.BallotSource.place src) (g.S.BallotSource.groups src)) ≤ most_value
 small g a src fine =
-    let law = g.met.A.Assorter.sound a (g.S.BallotSource.contest src) fine in
+    let law = g.A.Assorter.sound a (g.S.BallotSource.contest src) fine in
     let values : (r : List ℕ) → g.A.Assorter.value a r ≤ 1000 = λ r. omega (arith, law.within r, law.small) in
     sum_fits (g.A.Assorter.value a) (g.S.BallotSource.contest src) values (g.S.BallotSource.groups src) (g.S.BallotSource.place src) (g.S.BallotSource.sound src).fit
 

@@ -13,7 +13,7 @@ fine s t a same none = ap (λ u. judged u a) (sym same) ∙ sym none
 pub passed_by-margin-requires : goal.passed_by-margin-requires
 passed_by-margin-requires g c =
     let s = g.S.BallotSource.contest c.args.source.now in
-    let law = g.met.A.Assorter.sound c.args.assertion.now s (fine s _ (g.A.Assorter.written c.args.assertion.now) c.contest_of-contest.ensures c.in_default.ensures) in
+    let law = g.A.Assorter.sound c.args.assertion.now s (fine s _ (g.A.Assorter.written c.args.assertion.now) c.contest_of-contest.ensures c.in_default.ensures) in
     let low : c.half.result ≤ 1000 = omega (arith, c.half.ensures, law.half_within, law.small) in
     let few : c.ballots.result ≤ most_ballots = omega (arith, c.ballots.ensures ∙ ap ballots c.sum_all-sum.ensures.same_groups, (g.S.BallotSource.sound c.args.source.now).fit.sum) in
     (c.sum_all-sum.ensures.small, halves_fit c.half.result c.ballots.result low few)
@@ -33,5 +33,5 @@ returns g c =
       same_contest = c.sum_all-sum.ensures.same_contest;
       same_groups = c.sum_all-sum.ensures.same_groups;
       outcome = (fits, (c.sum_all-sum.ensures.sum, exact g c));
-      rightly = λ holds. (g.met.A.Assorter.sound c.args.assertion.now s fits).rightly (g.S.BallotSource.groups c.args.source.now) (g.S.BallotSource.sound c.args.source.now).fit (subst (λ m. pos 0 <ℤ m) (exact g c) holds);
+      rightly = λ holds. (g.A.Assorter.sound c.args.assertion.now s fits).rightly (g.S.BallotSource.groups c.args.source.now) (g.S.BallotSource.sound c.args.source.now).fit (subst (λ m. pos 0 <ℤ m) (exact g c) holds);
     }
