@@ -1,5 +1,5 @@
 // Tallying the live assertions.
-ghost use Rattle.std.specs.Prelude.{◌≡◌, ◌^◌, ◌<◌, ◌≤◌, true, map, pos, ◌-ℤ◌, vec_len, OnErr, unsigned_abs};
+ghost use Rattle.std.specs.Prelude.{◌≡◌, ◌^◌, ◌<◌, ◌≤◌, true, [], map, pos, ◌-ℤ◌, vec_len, OnErr, unsigned_abs};
 ghost use Rattle.irv.specs.Ballots.{slate};
 ghost use Rattle.ballot.specs.Values.{group_value};
 ghost use Rattle.assertion.specs.Sums.{most_value};
@@ -86,6 +86,19 @@ impl Dossier {
         }
     }
 
+    // Adds each group of the source, which is at its start, to margins that have none yet. The place is left at the end.
+    fn add_all<S: BallotSource>(&mut self, source: &mut S)
+        requires start { S.place source.old ≡ 0 }
+        requires none_yet { state self.old ≡ on_groups [] (state self.old) }
+        ensures after { state self.new ≡ on_groups (S.groups source.old) (state self.old) }
+        ensures same_contest { S.contest source.new ≡ S.contest source.old }
+        ensures same_groups { S.groups source.new ≡ S.groups source.old }
+    {
+        while let Some(group) = source.next() {
+            self.add_group(&group);
+        }
+    }
+
     // Takes up the margins of the live records on all ballots of the source, whose place is left at its end.
     fn tally_all<S: BallotSource>(&mut self, source: &mut S)
         requires { S.contest source.old ≡ slate self.old.contest.candidates }
@@ -95,9 +108,7 @@ impl Dossier {
     {
         self.clear_margins();
         source.rewind();
-        while let Some(group) = source.next() {
-            self.add_group(&group);
-        }
+        self.add_all(source);
     }
 
     // Reads the source from start to end and keeps how many ballots it has and the margin of each live assertion on them,

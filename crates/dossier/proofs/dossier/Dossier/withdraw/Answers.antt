@@ -16,7 +16,7 @@ invariant_of-self-clause-fine c =
     let rs = vec_items c.args.self.now.records in
     let i = c.in_ok-place.place in
     let here : fine_record s c.index_mut.result.now ≡ true = ap (fine_record s) c.index_mut.ensures.value ∙ fine_at s rs i c.index_mut.result.now c.in_ok-place.ensures.1.1 c.args.self.now.fine in
-    fine_set s rs i (ended c.index_mut.result.now) c.args.self.now.fine here
+    fine_set s rs i _ c.args.self.now.fine here
 
 pub returns : goal.returns
 returns c =
