@@ -1,85 +1,55 @@
--- What a ranking says of two candidates and who of a set is foreign, number by number; and the judgement of a set's members.
-use Rattle.std.proofs.Common.{◌≡◌, ℕ, suc, ◌+◌, ◌-◌, ◌<◌, ◌≤◌, Bool, true, false, cond, not, ◌&&◌, leb, List, ◌∷◌, length, get_or, drop, Some, None, refl, ap, ◌∙◌, ⊎_elim, arith}
-use Rattle.std.proofs.lemmas.List.{at_drop_more}
-use Rattle.std.proofs.lemmas.Bool.{eq-eqb, ne_eqb, and_parts, and_cases, not-true, not-false, leb-true}
+-- Who of two is met first in a ranking and who of a set is foreign; and the judgement of a set's members.
+use Rattle.std.proofs.Common.{◌≡◌, ℕ, zero, suc, ◌+◌, ◌≤◌, Bool, true, false, cond, not, ◌&&◌, ◌||◌, ◌==◌, leb, nat_eq, List, [], ◌∷◌, Some, None, Option, Bor, sym, refl, ap, ◌∙◌, arith}
+use Rattle.std.proofs.Math.Bool.{and-false}
+use Rattle.std.specs.List.{find, range_with_len}
+use Rattle.std.specs.Option.{option_map, option_eq}
+use Rattle.std.proofs.lemmas.Bool.{and_parts, leb-true}
 use Rattle.irv.specs.Sets.{Set, has}
 use Rattle.irv.specs.Ballots.{Slate, member, mem}
-use Rattle.irv.specs.Assertions.{nen, Cause, foreign, same, lacks_winner, lacks_loser, ahead, foreign_in, unascending_in, judged, members_from, members_of}
+use Rattle.irv.specs.Assertions.{nen, foreign, same, lacks_winner, lacks_loser, ahead, foreign_in, unascending_in, unless, first_of, judged, members_from, members_of}
 use Rattle.irv.proofs.Assertions.{members_are, mem_members, ascending}
 
--- l is ranked, and w is not ahead of it
-abbrev pub behind : ℕ → ℕ → List ℕ → Bool
-behind w l r = mem l r && not (ahead w l r)
+-- c is one of the two
+abbrev pub either_of : ℕ → ℕ → ℕ → Bool
+either_of w l c = c == w || c == l
 
-module _ (w l : ℕ) (r : List ℕ) (i : ℕ) (within : i < length r) where
-  here : behind w l (drop i r) ≡ behind w l (get_or r i 0 ∷ drop (i + 1) r)
-  here = at_drop_more (behind w l) r i 0 within
+-- the lowest foreign member is the first that is found
+pub foreign_found : (s : Slate) (R : Set) (k n : ℕ) → option_map foreign (find (λ c. has R c && not (member s c)) (range_with_len k n)) ≡ foreign_in s (members_from R k n)
+foreign_found s R k zero = refl
+foreign_found s R k (suc n) = by (has R k) (member s k) refl (foreign_found s R (k + 1) n)
+  where
+    by : (h m : Bool) → member s k ≡ m → option_map foreign (find (λ c. has R c && not (member s c)) (range_with_len (k + 1) n)) ≡ foreign_in s (members_from R (k + 1) n) → option_map foreign (cond (h && not (member s k)) (Some k) (find (λ c. has R c && not (member s c)) (range_with_len (k + 1) n))) ≡ foreign_in s (cond h (k ∷ members_from R (k + 1) n) (members_from R (k + 1) n))
+    by true true e later = rw e later
+    by true false e later = rw e refl
+    by false m e later = later
 
-  pub behind_at_loser : get_or r i 0 ≡ l → behind w l (drop i r) ≡ true
-  behind_at_loser e = here ∙ rw (eq-eqb (get_or r i 0) l e) refl
+-- the first of the two that is found is l exactly where l is ranked and w is not ahead of it
+pub behind_found : (w l : ℕ) (r : List ℕ) → option_eq nat_eq (find (either_of w l) r) (Some l) ≡ (mem l r && not (ahead w l r))
+behind_found w l [] = refl
+behind_found w l (c ∷ cs) = by (c == w) (c == l) refl (behind_found w l cs)
+  where
+    by : (a b : Bool) → (c == l) ≡ b → option_eq nat_eq (find (either_of w l) cs) (Some l) ≡ (mem l cs && not (ahead w l cs)) → option_eq nat_eq (cond (a || b) (Some c) (find (either_of w l) cs)) (Some l) ≡ ((b || mem l cs) && not (not b && (a || ahead w l cs)))
+    by true true e later = e
+    by true false e later = e ∙ sym (and-false (mem l cs))
+    by false true e later = e
+    by false false e later = later
 
-  pub behind_at_winner : (get_or r i 0 ≡ l → ⊥) → get_or r i 0 ≡ w → behind w l (drop i r) ≡ false
-  behind_at_winner apart e = here ∙ rw (ne_eqb (get_or r i 0) l apart, eq-eqb (get_or r i 0) w e) (none (mem l (drop (i + 1) r)))
+-- `==` of what `find` answers over references, by what these point to
+pub same_found : (o : Option (Bor ℕ)) (l : Bor ℕ) → option_eq (λ (x : Bor ℕ) (y : Bor ℕ). nat_eq x.now y.now) o (Some l) ≡ option_eq nat_eq (option_map (λ x. x.now) o) (Some l.now)
+same_found None l = refl
+same_found (Some x) l = refl
+
+-- the judgement of nen where both numbers and all members are candidates and the two differ
+module _ (s : Slate) (w l : ℕ) (R : Set) (few : s.candidates ≤ 16) where
+  listed_as : (c : ℕ) → member s c ≡ true → mem c (members_of R) ≡ has R c
+  listed_as c is =
+      let parts = and_parts (leb 1 c) (leb c s.candidates) is in
+      ap (mem c) (members_are R) ∙ mem_members R 1 16 c (leb-true 1 c parts.0) (omega (arith, few, leb-true c s.candidates parts.1))
+
+  pub nen_of_members : foreign_in s (w ∷ l ∷ []) ≡ None → foreign_in s (members_of R) ≡ None → unless (not (w == l)) (same w) ≡ None → judged s (nen w l (members_of R)) ≡ first_of (unless (has R w) (lacks_winner w) ∷ unless (has R l) (lacks_loser l) ∷ [])
+  nen_of_members pair all apart = by (member s w) (member s l) refl refl pair
     where
-      none : (m : Bool) → (m && false) ≡ false
-      none true = refl
-      none false = refl
-
-  pub behind_past : (get_or r i 0 ≡ l → ⊥) → (get_or r i 0 ≡ w → ⊥) → behind w l (drop i r) ≡ behind w l (drop (i + 1) r)
-  behind_past apart other = here ∙ rw (ne_eqb (get_or r i 0) l apart, ne_eqb (get_or r i 0) w other) refl
-
--- the members from k on, by whether k is one
-module _ (s : Slate) (R : Set) (k : ℕ) (low : k < 17) where
-  counted : 17 - k ≡ suc (17 - (k + 1))
-  counted = omega arith
-
-  open_up : foreign_in s (members_from R k (17 - k)) ≡ foreign_in s (cond (has R k) (k ∷ members_from R (k + 1) (17 - (k + 1))) (members_from R (k + 1) (17 - (k + 1))))
-  open_up = ap (λ n. foreign_in s (members_from R k n)) counted
-
-  pub foreign_here : (has R k && not (member s k)) ≡ true → foreign_in s (members_from R k (17 - k)) ≡ Some (foreign k)
-  foreign_here is =
-      let parts = and_parts (has R k) (not (member s k)) is in
-      open_up ∙ rw (parts.0, not-true (member s k) parts.1) refl
-
-  pub foreign_past : (has R k && not (member s k)) ≡ false → foreign_in s (members_from R k (17 - k)) ≡ foreign_in s (members_from R (k + 1) (17 - (k + 1)))
-  foreign_past is =
-      open_up ∙ ⊎_elim (λ out. rw out refl) (λ fits. skipped (has R k) (not-false (member s k) fits)) (and_cases (has R k) (not (member s k)) is)
-    where
-      skipped : (h : Bool) → member s k ≡ true → foreign_in s (cond h (k ∷ members_from R (k + 1) (17 - (k + 1))) (members_from R (k + 1) (17 - (k + 1)))) ≡ foreign_in s (members_from R (k + 1) (17 - (k + 1)))
-      skipped true fits = rw fits refl
-      skipped false fits = refl
-
--- the judgement of nen, cause by cause
-module _ (s : Slate) (w l : ℕ) (R : Set) where
-  pub nen_foreign_winner : member s w ≡ false → judged s (nen w l (members_of R)) ≡ Some (foreign w)
-  nen_foreign_winner out = rw out refl
-
-  module _ (is-w : member s w ≡ true) where
-    pub nen_foreign_loser : member s l ≡ false → judged s (nen w l (members_of R)) ≡ Some (foreign l)
-    nen_foreign_loser out = rw (is-w, out) refl
-
-    module _ (is-l : member s l ≡ true) where
-      pub nen_foreign_member : (c : Cause) → foreign_in s (members_of R) ≡ Some c → judged s (nen w l (members_of R)) ≡ Some c
-      nen_foreign_member c found = rw (is-w, is-l, found) refl
-
-      module _ (fits : foreign_in s (members_of R) ≡ None) where
-        pub nen_same : w ≡ l → judged s (nen w l (members_of R)) ≡ Some (same w)
-        nen_same e = rw (is-w, is-l, fits, eq-eqb w l e) refl
-
-        module _ (few : s.candidates ≤ 16) (apart : w ≡ l → ⊥) where
-          listed_as : (c : ℕ) → member s c ≡ true → mem c (members_of R) ≡ has R c
-          listed_as c is =
-              let parts = and_parts (leb 1 c) (leb c s.candidates) is in
-              ap (mem c) (members_are R) ∙ mem_members R 1 16 c (leb-true 1 c parts.0) (omega (arith, few, leb-true c s.candidates parts.1))
-
-          in_order : unascending_in (members_of R) ≡ None
-          in_order = ap unascending_in (members_are R) ∙ ascending R 1 16
-
-          pub nen_lacks_winner : has R w ≡ false → judged s (nen w l (members_of R)) ≡ Some (lacks_winner w)
-          nen_lacks_winner out = rw (is-w, is-l, fits, ne_eqb w l apart, in_order, listed_as w is-w, out) refl
-
-          pub nen_lacks_loser : has R w ≡ true → has R l ≡ false → judged s (nen w l (members_of R)) ≡ Some (lacks_loser l)
-          nen_lacks_loser in-w out = rw (is-w, is-l, fits, ne_eqb w l apart, in_order, listed_as w is-w, listed_as l is-l, in-w, out) refl
-
-          pub nen_fits : has R w ≡ true → has R l ≡ true → judged s (nen w l (members_of R)) ≡ None
-          nen_fits in-w in-l = rw (is-w, is-l, fits, ne_eqb w l apart, in_order, listed_as w is-w, listed_as l is-l, in-w, in-l) refl
+      by : (b d : Bool) → member s w ≡ b → member s l ≡ d → cond b (cond d None (Some (foreign l))) (Some (foreign w)) ≡ None → judged s (nen w l (members_of R)) ≡ first_of (unless (has R w) (lacks_winner w) ∷ unless (has R l) (lacks_loser l) ∷ [])
+      by true true is-w is-l h = rw (is-w, is-l, all, apart, ap unascending_in (members_are R) ∙ ascending R 1 16, listed_as w is-w, listed_as l is-l) refl
+      by true false is-w is-l h = cc
+      by false d is-w is-l h = cc

@@ -1,5 +1,5 @@
--- What a `Cause` stands for, and the refusal that it leads to.
-use Rattle.std.specs.Prelude.{◌≡◌, Some, None, Option}
+-- What a `Cause` and a judgement stand for, and the refusal that a cause leads to.
+use Rattle.std.specs.Prelude.{◌≡◌, Some, None, Ok, Err, Option, Result}
 use Rattle.irv.specs.Assertions as irv
 use Rattle.ballot.specs.declared.refusal.Refusal.{Refusal}
 use Rattle.ballot.specs.declared.refusal.Refusal.TheVariants.{AssertionUnfit, FractionOutOfRange}
@@ -14,9 +14,10 @@ meant (LacksWinner w) = irv.lacks_winner w
 meant (LacksLoser l) = irv.lacks_loser l
 meant Fraction = irv.fraction
 
-abbrev pub cause_meant : Option Cause → Option irv.Cause
-cause_meant None = None
-cause_meant (Some c) = Some (meant c)
+-- the cause that a judgement found, if there is one
+abbrev pub judgement : Result (Unit {0}) Cause → Option irv.Cause
+judgement (Ok u) = None
+judgement (Err c) = Some (meant c)
 
 abbrev pub cause_refusal : irv.Cause → Refusal
 cause_refusal (irv.foreign c) = AssertionUnfit

@@ -6,7 +6,6 @@ use Rattle.irv.specs.Ballots.{Slate, mem}
 use Rattle.irv.specs.Assertions.{nen, nen_value, nen_rules, judged, members_of}
 use Rattle.irv.specs.AssertionLaws.{SoundAssorter}
 use Rattle.irv.proofs.Assertions.{nen_sound, nen_judged, mem_has, members_are, neb_law, maj_law}
-use Rattle.ballot.specs.Sets.{members}
 use Rattle.assertion.specs.Kinds.{written_kind, value_kind, top_kind, half_kind, rules_kind}
 use Rattle.assertion.specs.declared.assertion.Assertion.{Assertion}
 use Rattle.assertion.specs.declared.assertion.Assertion.TheVariants.{Neb, Nen, Majority}
@@ -18,5 +17,5 @@ nen_set_law s w l R h =
 
 pub any_kind_law : (x : Assertion) (s : Slate) → judged s (written_kind x) ≡ None → SoundAssorter s (value_kind x) (top_kind x) (half_kind x) (rules_kind x)
 any_kind_law (Neb a) s h = neb_law s a.winner a.loser h
-any_kind_law (Nen a) s h = nen_set_law s a.winner a.loser (members a.standing) h
+any_kind_law (Nen a) s h = nen_set_law s a.winner a.loser a.standing h
 any_kind_law (Majority a) s h = maj_law s a.winner a.part a.whole h

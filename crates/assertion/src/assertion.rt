@@ -11,6 +11,7 @@ use ballot::candidate_set::CandidateSet;
 use ballot::contest::Contest;
 use ballot::ranking::Ranking;
 
+// An enum and no `dyn`, since the kinds are three, a dossier copies them, and its table holds them without boxes.
 #[derive(Clone, Copy)]
 pub enum Assertion {
     Neb(Neb),
@@ -63,7 +64,7 @@ impl Assorter for Assertion {
         }
     }
 
-    fn judge(&self, contest: Contest) -> Option<Cause> {
+    fn judge(&self, contest: Contest) -> Result<(), Cause> {
         match self {
             Assertion::Neb(a) => a.judge(contest),
             Assertion::Nen(a) => a.judge(contest),

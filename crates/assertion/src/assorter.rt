@@ -4,9 +4,8 @@ ghost use Rattle.irv.specs.Ballots.{Slate};
 ghost use Rattle.irv.specs.Endings.{Ruling};
 ghost use Rattle.irv.specs.Assertions.{Written, judged};
 ghost use Rattle.irv.specs.AssertionLaws.{SoundAssorter};
-ghost use Rattle.ballot.specs.Sets.{members};
 ghost use Rattle.ballot.specs.Values.{contest_slate, ranked};
-ghost use Rattle.assertion.specs.Causes.{cause_meant};
+ghost use Rattle.assertion.specs.Causes.{judgement};
 
 use crate::cause::Cause;
 use ballot::candidate_set::CandidateSet;
@@ -34,7 +33,7 @@ pub trait Assorter {
     fn value(&self, ranking: &Ranking) -> u32
         ensures { result ≡ value self.now (ranked ranking.now) };
 
-    // The highest value.
+    // The highest value. It has no default of 2, since a default is proved for every implementation at once.
     fn top(&self) -> u32
         ensures { result ≡ top self.now };
 
@@ -44,9 +43,9 @@ pub trait Assorter {
 
     // Whether it rules out that `out` goes out of `standing`.
     fn rules_out(&self, standing: CandidateSet, out: u32) -> bool
-        ensures { result ≡ rules self.now (members standing) out };
+        ensures { result ≡ rules self.now standing out };
 
-    // The first cause why it does not fit the contest, if there is one.
-    fn judge(&self, contest: Contest) -> Option<Cause>
-        ensures { cause_meant result ≡ judged (contest_slate contest) (written self.now) };
+    // The first cause why it does not fit the contest, where it does not.
+    fn judge(&self, contest: Contest) -> Result<(), Cause>
+        ensures { judgement result ≡ judged (contest_slate contest) (written self.now) };
 }

@@ -7,7 +7,7 @@ ghost use Rattle.assertion.specs.Causes.{meant, cause_refusal};
 use ballot::refusal::Refusal;
 
 // Each case names the number that is at fault.
-#[derive(Clone, Copy)]
+#[derive(Clone, Copy, PartialEq, Eq, Debug)]
 pub enum Cause {
     Foreign(u32),
     Same(u32),
@@ -17,18 +17,20 @@ pub enum Cause {
     Fraction,
 }
 
-impl Cause {
-    // The refusal that the cause leads to.
-    pub fn refusal(&self) -> Refusal
-        ensures value { result ≡ cause_refusal (meant self.now) }
-        ensures number { refusal_number result ≡ cause_number (meant self.now) }
+// The refusal that a cause leads to.
+impl From<Cause> for Refusal {
+    ghost from_gives = { λ cause refusal. refusal ≡ cause_refusal (meant cause) };
+
+    fn from(cause: Cause) -> Refusal
+        ensures value { result ≡ cause_refusal (meant cause) }
+        ensures number { refusal_number result ≡ cause_number (meant cause) }
     {
-        match self {
-            Cause::Foreign(_) => Refusal::AssertionUnfit,
-            Cause::Same(_) => Refusal::AssertionUnfit,
-            Cause::Unascending(_) => Refusal::AssertionUnfit,
-            Cause::LacksWinner(_) => Refusal::AssertionUnfit,
-            Cause::LacksLoser(_) => Refusal::AssertionUnfit,
+        match cause {
+            Cause::Foreign(_)
+            | Cause::Same(_)
+            | Cause::Unascending(_)
+            | Cause::LacksWinner(_)
+            | Cause::LacksLoser(_) => Refusal::AssertionUnfit,
             Cause::Fraction => Refusal::FractionOutOfRange,
         }
     }

@@ -4,6 +4,7 @@
 pub mod assertion;
 pub mod assorter;
 pub mod cause;
+mod fitting;
 pub mod majority;
 pub mod neb;
 pub mod nen;

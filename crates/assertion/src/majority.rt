@@ -1,9 +1,11 @@
 // MAJ: the winner is first on more than `part` in `whole` of the ballots that rank anybody.
-ghost use Rattle.irv.specs.Assertions.{maj, maj_value, maj_rules};
+ghost use Rattle.std.specs.Prelude.{◌≡◌};
+ghost use Rattle.irv.specs.Assertions.{maj, maj_value, maj_rules, fraction_fits};
 ghost use Rattle.irv.proofs.Assertions.{maj_law};
 
 use crate::assorter::Assorter;
 use crate::cause::Cause;
+use crate::fitting::{require, stands};
 use crate::reading::is_first;
 use ballot::candidate_set::CandidateSet;
 use ballot::contest::Contest;
@@ -14,6 +16,13 @@ pub struct Majority {
     pub winner: u32,
     pub part: u32,
     pub whole: u32,
+}
+
+// Whether the fraction is one that a majority may be asked for: from a half to below the whole.
+fn fraction_fits(part: u32, whole: u32) -> bool
+    ensures { result ≡ fraction_fits part whole }
+{
+    (2..=1000).contains(&whole) && part < whole && whole <= 2 * part
 }
 
 impl Assorter for Majority {
@@ -30,14 +39,10 @@ impl Assorter for Majority {
     ghost sound = { λ x s h. maj_law s x.winner x.part x.whole h };
 
     fn value(&self, ranking: &Ranking) -> u32 {
-        match ranking.as_slice().split_first() {
-            Some((first, _)) => {
-                if *first == self.winner {
-                    return self.whole;
-                }
-                0
-            }
-            None => self.part,
+        match ranking.as_slice() {
+            [] => self.part,
+            ranked if is_first(ranked, self.winner) => self.whole,
+            _ => 0,
         }
     }
 
@@ -53,24 +58,8 @@ impl Assorter for Majority {
         out == self.winner
     }
 
-    fn judge(&self, contest: Contest) -> Option<Cause> {
-        if !contest.is_candidate(self.winner) {
-            return Some(Cause::Foreign(self.winner));
-        }
-        let part = self.part;
-        let whole = self.whole;
-        if whole < 2 {
-            return Some(Cause::Fraction);
-        }
-        if whole > 1000 {
-            return Some(Cause::Fraction);
-        }
-        if part >= whole {
-            return Some(Cause::Fraction);
-        }
-        if whole > 2 * part {
-            return Some(Cause::Fraction);
-        }
-        None
+    fn judge(&self, contest: Contest) -> Result<(), Cause> {
+        stands(contest, self.winner)?;
+        require(fraction_fits(self.part, self.whole), Cause::Fraction)
     }
 }

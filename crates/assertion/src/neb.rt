@@ -4,6 +4,7 @@ ghost use Rattle.irv.proofs.Assertions.{neb_law};
 
 use crate::assorter::Assorter;
 use crate::cause::Cause;
+use crate::fitting::{both_stand, differ};
 use crate::reading::{is_first, is_not_ahead};
 use ballot::candidate_set::CandidateSet;
 use ballot::contest::Contest;
@@ -48,22 +49,11 @@ impl Assorter for Neb {
     }
 
     fn rules_out(&self, standing: CandidateSet, out: u32) -> bool {
-        if out != self.winner {
-            return false;
-        }
-        standing.has(self.loser)
+        out == self.winner && standing.has(self.loser)
     }
 
-    fn judge(&self, contest: Contest) -> Option<Cause> {
-        if !contest.is_candidate(self.winner) {
-            return Some(Cause::Foreign(self.winner));
-        }
-        if !contest.is_candidate(self.loser) {
-            return Some(Cause::Foreign(self.loser));
-        }
-        if self.winner == self.loser {
-            return Some(Cause::Same(self.winner));
-        }
-        None
+    fn judge(&self, contest: Contest) -> Result<(), Cause> {
+        both_stand(contest, self.winner, self.loser)?;
+        differ(self.winner, self.loser)
     }
 }

@@ -2,7 +2,7 @@
 ghost use Rattle.std.specs.Prelude.{◌≡◌, pos, int_lt};
 
 // The values of all ballots together, and by how much that passes the half for each ballot.
-#[derive(Clone, Copy)]
+#[derive(Clone, Copy, PartialEq, Eq, Debug)]
 pub struct Tallied {
     pub sum: u64,
     pub margin: i64,

@@ -8,7 +8,6 @@ use ballot::contest::Contest;
 use ballot::group::Group;
 use ballot::lent::LentGroups;
 use ballot::ranking::Ranking;
-use ballot::refusal::Refusal;
 use std::test::Fail;
 
 #[test]
@@ -59,14 +58,7 @@ fn margins_and_what_holds(rt: HostRuntime) -> Result<(), Fail> {
         part: 1,
         whole: 3,
     };
-    match tally(&third, &mut blanks) {
-        Ok(_) => {
-            assert!(rt; false);
-            Ok(())
-        },
-        Err(refusal) => {
-            assert_eq!(rt; refusal.number(), 5);
-            Ok(())
-        },
-    }
+    let refused = tally(&third, &mut blanks);
+    assert_eq!(rt; refused.err().map(|refusal| refusal.number()), Some(5));
+    Ok(())
 }

@@ -1,6 +1,6 @@
 -- The live records under their numbers: after one more record, after one is ended, after a tally, and whose number is live.
-use Rattle.std.proofs.Common.{◌≡◌, ℕ, zero, suc, ◌+◌, ◌<◌, ◌≤◌, true, false, cond, List, [], ◌∷◌, ◌++◌, map, length, get_or, take, drop, sym, refl, ap, ◌∙◌, arith}
-use Rattle.std.proofs.lemmas.List.{take_more, length-take-le, at_drop_more}
+use Rattle.std.proofs.Common.{◌≡◌, ℕ, zero, suc, ◌+◌, ◌<◌, ◌≤◌, true, false, cond, List, [], ◌∷◌, ◌++◌, map, length, get_or, take, sym, refl, ap, ◌∙◌, arith}
+use Rattle.std.proofs.lemmas.List.{take_more, length-take-le}
 use Rattle.std.proofs.lemmas.Bool.{eq-eqb, ne_eqb}
 use Rattle.irv.specs.Ballots.{Slate, BallotGroup}
 use Rattle.audit.specs.Entries.{Entry, Line, lines_from, entries, is_among, without, line_on}
@@ -82,7 +82,3 @@ told_at k (suc i) (r ∷ rs) d within live =
 pub lines_more : (rs : List AssertionRecord) (i : ℕ) (d : AssertionRecord) → i < length rs → lines_from 1 (take (i + 1) rs) ≡ lines_from 1 (take i rs) ++ lines_from (1 + i) (get_or rs i d ∷ [])
 lines_more rs i d within =
     ap (lines_from 1) (take_more rs i d within) ∙ lines_append 1 (take i rs) (get_or rs i d ∷ []) ∙ ap (λ n. lines_from 1 (take i rs) ++ lines_from (1 + n) (get_or rs i d ∷ [])) (length-take-le i rs (omega arith))
-
--- the lines of the records from place i on
-pub lines_left : (rs : List AssertionRecord) (i : ℕ) (d : AssertionRecord) → i < length rs → lines_from (1 + i) (drop i rs) ≡ lines_from (1 + i) (get_or rs i d ∷ drop (i + 1) rs)
-lines_left rs i d within = at_drop_more (lines_from (1 + i)) rs i d within

@@ -1,10 +1,10 @@
 -- A set, and a ranking, grown by one candidate at a time.
 use Rattle.std.proofs.Common.{◌≡◌, ℕ, ◌+◌, ◌<◌, ◌≤◌, Bool, true, false, cond, ◌&&◌, ◌||◌, eqb, ltb, leb, List, [], ◌++◌, length, get_or, take, drop, is_some, Some, None, Option, sym, refl, ap, ◌∙◌, subst, arith, take-append-drop}
-use Rattle.std.proofs.lemmas.List.{at_drop_more, take_more, drop_more}
+use Rattle.std.proofs.lemmas.List.{take_more, drop_more}
 use Rattle.std.proofs.lemmas.Bool.{lt-ltb, leb-true, and_parts, and_right, both_ways}
 use Rattle.std.proofs.lemmas.Bool.Decides.{nat_tests}
 use Rattle.irv.specs.Sets.{Set, empty, has, with}
-use Rattle.irv.specs.Ballots.{Slate, member, mem, ranks, owner}
+use Rattle.irv.specs.Ballots.{Slate, member, mem, ranks}
 use Rattle.irv.proofs.Bits.{none_in_empty, one_more}
 use Rattle.irv.proofs.Lists.{mem_push, ranks_push, not_ranked}
 use Rattle.ballot.specs.Sets.{in_range}
@@ -25,13 +25,6 @@ up_by_one R S k r some few told after before c =
     let grown : S ≡ with k R = after ∙ ap (λ b. cond b (with k R) R) (told ∙ room_for k some few) in
     ap (λ T. has T c) grown ∙ one_more k c R ∙ ap (λ b. (ltb 0 k && eqb k c) || b) (before c) ∙ grind (arith, nat_tests)
 
--- whom a ballot belongs to, from place i on
-pub found_at : (R : Set) (xs : List ℕ) (i : ℕ) → i < length xs → has R (get_or xs i 0) ≡ true → owner R (drop i xs) ≡ Some (get_or xs i 0)
-found_at R xs i within is = at_drop_more (owner R) xs i 0 within ∙ ap (λ b. cond b (Some (get_or xs i 0)) (owner R (drop (i + 1) xs))) is
-
-pub passed_at : (R : Set) (xs : List ℕ) (i : ℕ) → i < length xs → has R (get_or xs i 0) ≡ false → owner R (drop i xs) ≡ owner R (drop (i + 1) xs)
-passed_at R xs i within is = at_drop_more (owner R) xs i 0 within ∙ ap (λ b. cond b (Some (get_or xs i 0)) (owner R (drop (i + 1) xs))) is
-
 -- xs is a ranking, and seen is the set of its candidates
 pub record Ranked (s : Slate) (seen : Set) (xs : List ℕ) : Type 0 where
   pub ranking : ranks s xs ≡ true
@@ -41,9 +34,6 @@ pub ranked_none : (s : Slate) (seen : Set) → seen ≡ empty → Ranked s seen 
 ranked_none s seen e = record { ranking = refl; seen_all = λ c. ap (λ R. has R c) e ∙ none_in_empty c ∙ sym (and_right (ltb 0 c) false refl) }
 
 module _ (s : Slate) (few : s.candidates ≤ 16) (seen : Set) (xs : List ℕ) (i : ℕ) (within : i < length xs) (so_far : Ranked s seen (take i xs)) where
-  pub seen_before : has seen (get_or xs i 0) ≡ true → mem (get_or xs i 0) (take i xs) ≡ true
-  seen_before h = (and_parts (ltb 0 (get_or xs i 0)) _ (sym (so_far.seen_all (get_or xs i 0)) ∙ h)).1
-
   pub ranked_more : (after : Set) (r : Bool) → member s (get_or xs i 0) ≡ true → has seen (get_or xs i 0) ≡ false → r ≡ in_range (get_or xs i 0) → after ≡ cond r (with (get_or xs i 0) seen) seen → Ranked s after (take (i + 1) xs)
   ranked_more after r is new told grown =
       let x : ℕ = get_or xs i 0 in

@@ -1,3 +1,6 @@
+pub mod Finding
 pub mod Growing
 pub mod GroupLists
+pub mod Outside
+pub mod Sameness
 pub mod Unique

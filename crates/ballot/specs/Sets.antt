@@ -1,10 +1,6 @@
--- What a `CandidateSet` stands for, and what it is to take a candidate out.
+-- The numbers that a set has room for, and what it is to take a candidate out.
 use Rattle.std.specs.Prelude.{◌≡◌, ℕ, Bool, true, false, ◌&&◌, nat_le}
 use Rattle.irv.specs.Sets.{Set, has, with}
-use Rattle.ballot.specs.declared.candidate_set.CandidateSet.{CandidateSet}
-
-abbrev pub members : CandidateSet → Set
-members s = s.bits
 
 -- the numbers that a set has room for
 abbrev pub in_range : ℕ → Bool

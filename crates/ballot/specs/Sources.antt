@@ -12,6 +12,11 @@ pub record SoundSource (s : Slate) (gs : List BallotGroup) (place : ℕ) : Type 
   pub within : place ≤ length gs
   deriving IsProp as sound_source_prop
 
+-- what is asked of a source leaves its contest and its groups
+pub record SameBallots {S : Type 0} (contest : S → Slate) (groups : S → List BallotGroup) (before after : S) : Type 0 where
+  pub same_contest : contest after ≡ contest before
+  pub same_groups : groups after ≡ groups before
+
 -- at the place stands the group that is handed out; at the end there is none
 abbrev pub HandsOut : Slate → List BallotGroup → ℕ → Option Group → ℕ → Type 0
 HandsOut s gs place r after =

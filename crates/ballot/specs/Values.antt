@@ -1,6 +1,7 @@
 -- What contests, rankings and groups stand for.
 use Rattle.std.specs.Prelude.{◌≡◌, ℕ, ◌<◌, Bool, true, false, ◌&&◌, ◌⊎◌, List, [], ◌∷◌, length, take, Option, MatchOption, ◌==◌, slice_index}
 use Rattle.irv.specs.Ballots.{Slate, slate, member, mem, ranks, BallotGroup}
+use Rattle.fixed_list.specs.Lists.{listed}
 use Rattle.ballot.specs.declared.contest.Contest.{Contest}
 use Rattle.ballot.specs.declared.group.Group.{Group}
 use Rattle.ballot.specs.declared.ranking.Ranking.{Ranking}
@@ -13,7 +14,7 @@ abbrev pub ranking_slate : Ranking → Slate
 ranking_slate r = slate r.candidates
 
 abbrev pub ranked : Ranking → List ℕ
-ranked r = take r.len r.places
+ranked r = listed r.list
 
 abbrev pub group_slate : Group → Slate
 group_slate g = ranking_slate g.ranking

@@ -3,7 +3,7 @@ ghost use Rattle.std.specs.Prelude.{◌≤◌};
 
 pub mod methods;
 
-// Candidates are numbered from 1 to `candidates`.
+// Candidates are numbered from 1 to `candidates`. No model, since the laws of sources cite a contest's own `proper`.
 #[derive(Clone, Copy)]
 pub struct Contest {
     candidates: u32,

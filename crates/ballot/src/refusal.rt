@@ -3,7 +3,7 @@ ghost use Rattle.std.specs.Prelude.{◌≡◌};
 ghost use Rattle.ballot.specs.Refusals.{refusal_number, refusal_value};
 
 // Each case is one cause. Where a text is at fault, its line and byte stand beside the cause.
-#[derive(Clone, Copy, Debug)]
+#[derive(Clone, Copy, Debug, PartialEq, Eq)]
 pub enum Refusal {
     CandidatesOutOfRange,
     WinnerNotCandidate,
@@ -64,7 +64,7 @@ impl Refusal {
         ensures { result ≡ refusal_value self.now }
     {
         match self {
-            Refusal::AssertionDoesNotHold(number) => Some(*number as u64),
+            Refusal::AssertionDoesNotHold(number) => Some(u64::from(*number)),
             Refusal::BufferTooShort(needed) => Some(*needed),
             Refusal::InputTooLong => Some(65536),
             _ => None,

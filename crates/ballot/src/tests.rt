@@ -8,20 +8,9 @@ use crate::refusal::Refusal;
 use crate::source::BallotSource;
 use std::test::Fail;
 
-// The number of the refusal, or 0 where there is none.
-fn refused<T: Drop>(res: Result<T, Refusal>) -> u32 {
-    match res {
-        Ok(_) => 0,
-        Err(refusal) => refusal.number(),
-    }
-}
-
-// How many ballots the group has, or 0 where there is no group.
-fn size(group: Option<Group>) -> u32 {
-    match group {
-        Some(group) => group.count(),
-        None => 0,
-    }
+// The number of the refusal, if there is one.
+fn refused<T: Drop>(res: Result<T, Refusal>) -> Option<u32> {
+    res.err().map(|refusal| refusal.number())
 }
 
 #[test]
@@ -41,7 +30,7 @@ fn sets_hold_1_to_16(rt: HostRuntime) -> Result<(), Fail> {
 
 #[test]
 fn contests_have_2_to_16_candidates(rt: HostRuntime) {
-    for (candidates, number) in [(1, 1), (2, 0), (16, 0), (17, 1)] {
+    for (candidates, number) in [(1, Some(1)), (2, None), (16, None), (17, Some(1))] {
         assert_eq!(rt; refused(Contest::new(candidates)), number);
     }
 }
@@ -49,19 +38,30 @@ fn contests_have_2_to_16_candidates(rt: HostRuntime) {
 #[test]
 fn rankings_and_groups(rt: HostRuntime) -> Result<(), Fail> {
     let contest = Contest::new(3)?;
-    assert_eq!(rt; refused(Ranking::new(contest, &[1, 3, 1])), 9, "repeated");
-    assert_eq!(rt; refused(Ranking::new(contest, &[1, 4])), 9, "foreign");
-    assert_eq!(rt; refused(Ranking::new(contest, &[0])), 9, "zero");
-    assert_eq!(rt; refused(Ranking::new(contest, &[])), 0, "empty");
+    assert_eq!(rt;
+        refused(Ranking::new(contest, &[1, 3, 1])),
+        Some(9),
+        "repeated"
+    );
+    assert_eq!(rt; refused(Ranking::new(contest, &[1, 4])), Some(9), "foreign");
+    assert_eq!(rt; refused(Ranking::new(contest, &[0])), Some(9), "zero");
+    assert_eq!(rt; refused(Ranking::new(contest, &[])), None, "empty");
     let sixteen = Contest::new(16)?;
     let long = [1, 2, 3, 4, 5, 6, 7, 8, 9, 10, 11, 12, 13, 14, 15, 16, 1];
     assert_eq!(rt;
         refused(Ranking::new(sixteen, &long[0..16])),
-        0,
+        None,
         "16 entries"
     );
-    assert_eq!(rt; refused(Ranking::new(sixteen, &long)), 9, "17 entries");
-    assert_eq!(rt; refused(Group::new(Ranking::new(contest, &[3, 1])?, 0)), 10);
+    assert_eq!(rt;
+        refused(Ranking::new(sixteen, &long)),
+        Some(9),
+        "17 entries"
+    );
+    assert_eq!(rt;
+        refused(Group::new(Ranking::new(contest, &[3, 1])?, 0)),
+        Some(10)
+    );
     Ok(())
 }
 
@@ -72,17 +72,23 @@ fn lent_groups(rt: HostRuntime) -> Result<(), Fail> {
     let b = Group::new(Ranking::new(contest, &[])?, 60_000_000)?;
     let one_more = Group::new(Ranking::new(contest, &[2])?, 1)?;
     let other = Group::new(Ranking::new(Contest::new(4)?, &[2])?, 1)?;
-    assert_eq!(rt; refused(LentGroups::open(contest, &[a, b, one_more])), 10);
-    assert_eq!(rt; refused(LentGroups::open(contest, &[other, a, b])), 10);
-    assert_eq!(rt; refused(LentGroups::open(contest, &[a, other])), 12);
+    assert_eq!(rt;
+        refused(LentGroups::open(contest, &[a, b, one_more])),
+        Some(10)
+    );
+    assert_eq!(rt;
+        refused(LentGroups::open(contest, &[other, a, b])),
+        Some(10)
+    );
+    assert_eq!(rt; refused(LentGroups::open(contest, &[a, other])), Some(12));
     let groups = [a, b];
     let mut source = LentGroups::open(contest, &groups)?;
     assert_eq!(rt; source.candidates(), 3);
     assert_eq!(rt; source.ballots(), 100_000_000);
-    for count in [40_000_000, 60_000_000, 0, 0] {
-        assert_eq!(rt; size(source.next()), count);
+    for count in [Some(40_000_000), Some(60_000_000), None, None] {
+        assert_eq!(rt; source.next().map(|group| group.count()), count);
     }
     source.rewind();
-    assert_eq!(rt; size(source.next()), 40_000_000);
+    assert_eq!(rt; source.next().map(|group| group.count()), Some(40_000_000));
     Ok(())
 }

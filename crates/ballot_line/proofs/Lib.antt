@@ -1,3 +1,4 @@
+pub mod Mapping
 pub mod Steps
 pub mod Turns
 pub mod Parts

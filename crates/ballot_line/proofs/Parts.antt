@@ -1,35 +1,14 @@
 -- What the readers of lines have at their returns.
-use Rattle.std.proofs.Common.{◌≡◌, ℕ, ◌+◌, ◌-◌, ◌≤◌, List, ◌∷◌, ◌++◌, length, take, drop, decimal, sym, ap, ◌∙◌, subst, append_assoc, arith, length-append}
+use Rattle.std.proofs.Common.{◌≡◌, ℕ, ◌-◌, List, ◌∷◌, ◌++◌, length, take, drop, sym, ap, ◌∙◌, subst, append_assoc, arith, length-append}
 use Rattle.std.proofs.lemmas.List.{take_at, drop_at}
+use Rattle.fixed_list.specs.Lists.{listed}
 use Rattle.forms.specs.Written.{semicolon, newline, Form, row_lines, group_lines, IsHead, written_ranking, line_bytes, LineOf}
 use Rattle.forms.specs.Fronts.{Ends, BreaksBefore, NotFirst, RankingEnd, HeadOf}
 use Rattle.forms.proofs.Lines.{head_missing, mark_missing, line_breaks}
-use Rattle.ballot_line.specs.Tokens.{TakesNumber}
 use Rattle.ballot_line.specs.Rows.{TakesRanking}
-use Rattle.ballot_line.specs.Lines.{TakesHead, NoHead, ReadsLine, IsFirst, IsSecond, field_bytes, line_of}
+use Rattle.ballot_line.specs.Lines.{TakesHead, NoHead, ReadsLine, IsSecond, field_bytes, line_of}
 use Rattle.ballot_line.specs.declared.field.Field.{Field}
 use Rattle.ballot_line.specs.declared.line.LineRead.{LineRead}
-
--- what is left is no longer than the text
-pub left_fits : (bs front rest : List ℕ) → bs ≡ front ++ rest → length rest ≤ length bs
-left_fits bs front rest e = omega (arith, ap length e, length-append front rest)
-
--- the part in front of what is left
-pub front_part : (bs front rest part : List ℕ) → bs ≡ front ++ rest → part ≡ take (length bs - length rest) bs → part ≡ front
-front_part bs front rest part e is =
-    let long : length front ≡ length bs - length rest = omega (arith, ap length e, length-append front rest) in
-    is ∙ ap (take (length bs - length rest)) e ∙ take_at front rest (length bs - length rest) long
-
--- a count that was read is the first field of a group line
-pub head_counted : (bs : List ℕ) (v : ℕ) (rest : List ℕ) (field : Field) → TakesNumber bs v rest → IsFirst group_lines field → field_bytes field ≡ take (length bs - length rest) bs → TakesHead group_lines bs field v rest
-head_counted bs v rest field t kind is =
-    let same : field_bytes field ≡ decimal v = front_part bs (decimal v) rest (field_bytes field) t.split is in
-    record {
-      kind = kind;
-      formed = record { small = t.small; written = same };
-      split = t.split ∙ ap (λ l. l ++ rest) (sym same);
-      ends = subst (λ l. Ends (HeadOf group_lines) l rest) (sym same) t.ends;
-    }
 
 pub line_headless : (f : Form) (bs rest : List ℕ) → NoHead f bs rest → BreaksBefore (LineOf f) bs rest
 line_headless f bs rest none = subst (λ l. BreaksBefore (LineOf f) bs l) (sym none.all) (head_missing f bs none.missing)
@@ -48,26 +27,18 @@ line_unranked f bs field count rest behind stop h marked broken =
     subst (λ l. BreaksBefore (LineOf f) l stop) (sym (h.split ∙ ap (λ l. field_bytes field ++ l) marked))
     (line_breaks f (field_bytes field) behind stop (head_is f _ count h.formed) (subst (Ends (HeadOf f) (field_bytes field)) marked h.ends) broken)
 
--- how much is left behind the ranking
-pub ranking_fits : (behind values : List ℕ) (len : ℕ) (after : List ℕ) → TakesRanking behind values len after → length after + 1 ≤ length behind
-ranking_fits behind values len after t = omega (arith, ap length t.split, length-append (written_ranking (take len values)) (newline ∷ after))
-
-pub line_fits : (f : Form) (bs : List ℕ) (field : Field) (count : ℕ) (rest behind : List ℕ) → TakesHead f bs field count rest → rest ≡ semicolon ∷ behind → length behind ≤ length bs
-line_fits f bs field count rest behind h marked = omega (arith, ap length marked, ap length h.split, length-append (field_bytes field) rest)
-
-pub line_read : (f : Form) (bs : List ℕ) (r : LineRead) (rest behind after : List ℕ) → TakesHead f bs r.first r.count rest → rest ≡ semicolon ∷ behind → TakesRanking behind r.numbers r.len after → IsSecond r.second → field_bytes r.second ≡ take (length behind - length after - 1) behind → r.length ≡ length bs - length after → ReadsLine f bs r
+pub line_read : (f : Form) (bs : List ℕ) (r : LineRead) (rest behind after : List ℕ) → TakesHead f bs r.first r.count rest → rest ≡ semicolon ∷ behind → TakesRanking behind (listed r.numbers) after → IsSecond r.second → field_bytes r.second ≡ take (length behind - length after - 1) behind → r.length ≡ length bs - length after → ReadsLine f bs r
 line_read f bs r rest behind after h marked t second part size = record {
   formed = record { head = h.formed; ranking = t.formed };
   split = whole ∙ ap (λ l. line_bytes (line_of r) ++ l) (sym left);
   long = long;
-  room = t.room;
   first = h.kind;
   second = second;
   ranking = part ∙ ap (take (length behind - length after - 1)) t.split ∙ take_at ranking (newline ∷ after) (length behind - length after - 1) (omega (arith, ap length t.split, length-append ranking (newline ∷ after)));
 }
   where
     ranking : List ℕ
-    ranking = written_ranking (take r.len r.numbers)
+    ranking = written_ranking (listed r.numbers)
 
     whole : bs ≡ line_bytes (line_of r) ++ after
     whole = h.split ∙ ap (λ l. field_bytes r.first ++ l) (marked ∙ ap (λ l. semicolon ∷ l) t.split) ∙ simp append_assoc

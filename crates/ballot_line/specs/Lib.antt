@@ -1,3 +1,4 @@
+pub mod Forms
 pub mod Tokens
 pub mod Rows
 pub mod Lines

@@ -1,16 +1,11 @@
 -- What it is to read a line off the front of a text.
-use Rattle.std.specs.Prelude.{◌≡◌, ℕ, ◌≤◌, List, [], ◌++◌, length, take, drop}
+use Rattle.std.specs.Prelude.{◌≡◌, ℕ, List, [], ◌++◌, length, drop}
+use Rattle.fixed_list.specs.Lists.{listed}
 use Rattle.forms.specs.Written.{Form, row_lines, group_lines, Line, WellFormed, IsHead, written_ranking, line_bytes}
 use Rattle.forms.specs.Fronts.{Ends, HeadOf}
-use Rattle.ballot_line.specs.declared.field.TextForm.{TextForm}
-use Rattle.ballot_line.specs.declared.field.TextForm.TheVariants.{Rows, Groups}
 use Rattle.ballot_line.specs.declared.field.Field.{Field}
 use Rattle.ballot_line.specs.declared.field.Field.TheVariants.{Identifier, Count, Ranking}
 use Rattle.ballot_line.specs.declared.line.LineRead.{LineRead}
-
-abbrev pub form_of : TextForm → Form
-form_of Rows = row_lines
-form_of Groups = group_lines
 
 -- a field's part of the text
 abbrev pub field_bytes : Field → List ℕ
@@ -46,14 +41,13 @@ pub record NoHead (f : Form) (bs rest : List ℕ) : Type 0 where
 
 -- the line that was read
 abbrev pub line_of : LineRead → Line
-line_of r = record { head = field_bytes r.first; count = r.count; numbers = take r.len r.numbers }
+line_of r = record { head = field_bytes r.first; count = r.count; numbers = listed r.numbers }
 
 -- r is a well-formed line that stands in front of bs, its fields are those parts of it, and length is how long it is
 pub record ReadsLine (f : Form) (bs : List ℕ) (r : LineRead) : Type 0 where
   pub formed : WellFormed f (line_of r)
   pub split : bs ≡ line_bytes (line_of r) ++ drop r.length bs
   pub long : r.length ≡ length (line_bytes (line_of r))
-  pub room : r.len ≤ 16
   pub first : IsFirst f r.first
   pub second : IsSecond r.second
   pub ranking : field_bytes r.second ≡ written_ranking (line_of r).numbers

@@ -15,16 +15,7 @@ impl<'t> Field<'t> {
         ensures { result.now ≡ field_bytes self.now }
     {
         match self {
-            Field::Identifier(part) => part,
-            Field::Count(part) => part,
-            Field::Ranking(part) => part,
+            Field::Identifier(part) | Field::Count(part) | Field::Ranking(part) => part,
         }
     }
-}
-
-// Whether each line is one ballot under an identifier, or a group of equal ballots with their count.
-#[derive(Clone, Copy)]
-pub enum TextForm {
-    Rows,
-    Groups,
 }

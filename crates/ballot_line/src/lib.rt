@@ -2,11 +2,13 @@
 #![tactic(auto)]
 
 mod field;
+mod form;
 mod judge;
 mod line;
 mod row;
 mod token;
 
-pub use field::{Field, TextForm};
+pub use field::Field;
+pub use form::{TextForm, UnknownForm};
 pub use judge::{GroupRead, LineFault, take_group};
 pub use line::{LineRead, read_line};

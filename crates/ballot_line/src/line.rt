@@ -3,29 +3,31 @@ ghost use Rattle.std.specs.Prelude.{◌≡◌, ◌-◌, ◌≤◌, length, take,
 ghost use Rattle.forms.specs.Languages.{Breaks};
 ghost use Rattle.forms.specs.Written.{LineOf};
 ghost use Rattle.forms.specs.Fronts.{BreaksBefore};
-ghost use Rattle.ballot_line.specs.Lines.{form_of, TakesHead, NoHead, ReadsLine};
+ghost use Rattle.ballot_line.specs.Forms.{form_of};
+ghost use Rattle.ballot_line.specs.Lines.{TakesHead, NoHead, ReadsLine};
 
-use crate::field::{Field, TextForm};
+use crate::field::Field;
+use crate::form::TextForm;
 use crate::row::ranking;
-use crate::token::{expect, identifier, number};
+use crate::token::{Taken, Taking, expect, identifier, number};
+use fixed_list::FixedList;
 
 // What a line says: its two fields as they stand in the text, how many ballots it makes, the numbers of its
-// ranking, which are the first `len` of `numbers`, and how many bytes it has with its end.
+// ranking, and how many bytes it has with its end.
 #[derive(Clone, Copy)]
 pub struct LineRead<'t> {
     pub first: Field<'t>,
     pub second: Field<'t>,
     pub count: u32,
-    pub numbers: [u32; 16],
-    pub len: usize,
+    pub numbers: FixedList<u32, 16>,
     pub length: usize,
 }
 
+// A first field, and how many ballots it makes.
 #[derive(Clone, Copy)]
-struct HeadRead<'t> {
+struct FirstField<'t> {
     field: Field<'t>,
     count: u32,
-    rest: &'t [u8],
 }
 
 // The part of `left` in front of `rest`, which ends it.
@@ -33,29 +35,32 @@ fn before<'t>(left: &'t [u8], rest: &[u8]) -> &'t [u8]
     requires { length rest.now ≤ length left.now }
     ensures { result.now ≡ take (length left.now - length rest.now) left.now }
 {
-    let len = left.len() - rest.len();
-    &left[0..len]
+    &left[..left.len() - rest.len()]
 }
 
-// The first field of a line.
-fn head<'t>(form: TextForm, left: &'t [u8]) -> Result<HeadRead<'t>, &'t [u8]>
-    ensures { MatchResult result (λ h. TakesHead (form_of form) left.now h.field h.count h.rest.now) (λ rest. NoHead (form_of form) left.now rest.now) }
+// The first field of a line. The forms differ in it alone, and are told apart here alone.
+fn head<'t>(form: TextForm, left: &'t [u8]) -> Taking<'t, FirstField<'t>>
+    ensures { MatchResult result (λ h. TakesHead (form_of form) left.now h.value.field h.value.count h.rest.now) (λ rest. NoHead (form_of form) left.now rest.now) }
 {
     match form {
         TextForm::Rows => {
             let name = identifier(left)?;
-            Ok(HeadRead {
-                field: Field::Identifier(name.bytes),
-                count: 1,
+            Ok(Taken {
+                value: FirstField {
+                    field: Field::Identifier(name.value),
+                    count: 1,
+                },
                 rest: name.rest,
             })
         }
         TextForm::Groups => {
             let count = number(left)?;
             let bytes = before(left, count.rest);
-            Ok(HeadRead {
-                field: Field::Count(bytes),
-                count: count.value,
+            Ok(Taken {
+                value: FirstField {
+                    field: Field::Count(bytes),
+                    count: count.value,
+                },
                 rest: count.rest,
             })
         }
@@ -71,11 +76,10 @@ fn take_line<'t>(form: TextForm, left: &'t [u8]) -> Result<LineRead<'t>, &'t [u8
     let row = ranking(behind)?;
     let len = behind.len() - row.rest.len() - 1;
     Ok(LineRead {
-        first: head.field,
-        second: Field::Ranking(&behind[0..len]),
-        count: head.count,
-        numbers: row.values,
-        len: row.len,
+        first: head.value.field,
+        second: Field::Ranking(&behind[..len]),
+        count: head.value.count,
+        numbers: row.value,
         length: left.len() - row.rest.len(),
     })
 }
@@ -84,8 +88,5 @@ fn take_line<'t>(form: TextForm, left: &'t [u8]) -> Result<LineRead<'t>, &'t [u8
 pub fn read_line<'t>(form: TextForm, left: &'t [u8]) -> Result<LineRead<'t>, usize>
     ensures { MatchResult result (λ l. ReadsLine (form_of form) left.now l) (λ i. Breaks (LineOf (form_of form)) left.now i) }
 {
-    match take_line(form, left) {
-        Ok(line) => Ok(line),
-        Err(rest) => Err(left.len() - rest.len()),
-    }
+    take_line(form, left).map_err(|rest| left.len() - rest.len())
 }

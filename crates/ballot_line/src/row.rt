@@ -1,19 +1,13 @@
 // Rows of numbers, and rankings among them. Where the form breaks, a reader gives back the text from there on.
 ghost use Rattle.std.specs.Prelude.{◌≤◌, MatchResult};
+ghost use Rattle.fixed_list.specs.Lists.{listed};
 ghost use Rattle.forms.specs.Fronts.{BreaksBefore, Numbers, RankingEnd};
 ghost use Rattle.ballot_line.specs.Rows.{Marks, TakesNumbers, TakesRanking};
 
-use crate::token::{expect, number};
+use crate::token::{Taken, Taking, expect, number};
+use fixed_list::FixedList;
 
 const MOST_NUMBERS: usize = 16;
-
-// The numbers are the first `len` of `values`.
-#[derive(Clone, Copy)]
-pub(crate) struct RowRead<'t> {
-    pub(crate) values: [u32; 16],
-    pub(crate) len: usize,
-    pub(crate) rest: &'t [u8],
-}
 
 // Numbers that the byte `joint` joins, at most `limit` of them, and the byte `end` behind the last.
 pub(crate) fn numbers<'t>(
@@ -21,27 +15,23 @@ pub(crate) fn numbers<'t>(
     joint: u8,
     end: u8,
     limit: usize,
-) -> Result<RowRead<'t>, &'t [u8]>
+) -> Taking<'t, FixedList<u32, MOST_NUMBERS>>
     requires marks { Marks joint end }
     requires some { 1 ≤ limit }
     requires room { limit ≤ 16 }
-    ensures { MatchResult result (λ n. TakesNumbers joint end limit left.now n.values n.len n.rest.now) (λ rest. BreaksBefore (Numbers joint end limit) left.now rest.now) }
+    ensures { MatchResult result (λ n. TakesNumbers joint end limit left.now (listed n.value) n.rest.now) (λ rest. BreaksBefore (Numbers joint end limit) left.now rest.now) }
 {
-    let mut values = [0; 16];
-    let mut len = 0;
+    // A loop, since the byte behind each number says whether there is another.
+    let mut value = FixedList::new();
     let mut rest = left;
     loop {
         let next = number(rest)?;
-        values[len] = next.value;
-        len += 1;
-        if let Ok(after) = expect(next.rest, end) {
-            return Ok(RowRead {
-                values,
-                len,
-                rest: after,
-            });
+        value.push(next.value).unwrap();
+        if let Ok(rest) = expect(next.rest, end) {
+            return Ok(Taken { value, rest });
         }
-        if len == limit {
+        let full = value.len() == limit;
+        if full {
             return Err(next.rest);
         }
         rest = expect(next.rest, joint)?;
@@ -49,16 +39,15 @@ pub(crate) fn numbers<'t>(
 }
 
 // A ranking and the end of its line: a hyphen for a blank ballot, or numbers.
-pub(crate) fn ranking<'t>(left: &'t [u8]) -> Result<RowRead<'t>, &'t [u8]>
-    ensures { MatchResult result (λ n. TakesRanking left.now n.values n.len n.rest.now) (λ rest. BreaksBefore RankingEnd left.now rest.now) }
+pub(crate) fn ranking<'t>(left: &'t [u8]) -> Taking<'t, FixedList<u32, MOST_NUMBERS>>
+    ensures { MatchResult result (λ n. TakesRanking left.now (listed n.value) n.rest.now) (λ rest. BreaksBefore RankingEnd left.now rest.now) }
 {
-    if let Ok(blank) = expect(left, b'-') {
-        let rest = expect(blank, b'\n')?;
-        return Ok(RowRead {
-            values: [0; 16],
-            len: 0,
-            rest,
-        });
-    }
-    numbers(left, b',', b'\n', MOST_NUMBERS)
+    let Ok(blank) = expect(left, b'-') else {
+        return numbers(left, b',', b'\n', MOST_NUMBERS);
+    };
+    let rest = expect(blank, b'\n')?;
+    Ok(Taken {
+        value: FixedList::new(),
+        rest,
+    })
 }

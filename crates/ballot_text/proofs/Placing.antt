@@ -13,15 +13,11 @@ use Rattle.forms.specs.Written.{Form, Line, line_bytes, text_of, group_of}
 use Rattle.forms.proofs.Outcome.{fit_goods, Goods, good_not_refused}
 use Rattle.forms.proofs.Reading.{one_line, some_bytes}
 use Rattle.ballot_line.specs.Faults.{TakesGroup, FaultyLine}
-use Rattle.ballot_text.specs.Openings.{ReadsAll}
 use Rattle.ballot_text.specs.Readings.{Reading}
 use Rattle.ballot_text.specs.Sound.{reading_groups}
 use Rattle.ballot_line.specs.declared.judge.GroupRead.{GroupRead}
 use Rattle.ballot_line.specs.declared.judge.LineFault.{LineFault}
 use Rattle.ballot_text.proofs.Opening.{lines_le}
-
-pub at_start : (f : Form) (n : ℕ) (bs : List ℕ) (sum : ℕ) → ReadsAll f (slate n) bs sum → Reading f n bs sum 0 0
-at_start f n bs sum all = record { lines = all.lines; holds = all.holds; sum_is = all.sum_is; within = omega arith; at_is = refl }
 
 pub text_append : (ls ms : List Line) → text_of (ls ++ ms) ≡ text_of ls ++ text_of ms
 text_append [] ms = refl

@@ -92,6 +92,3 @@ never_broken f n bs sum place_at place passed at reading walked inside i broken 
 
 pub read_within : (f : Form) (bs : List ℕ) (at : ℕ) (r : LineRead) → at ≤ length bs → ReadsLine f (drop at bs) r → at + r.length ≤ length bs
 read_within f bs at r within read = omega (arith, read.long, ap length read.split, length-append (line_bytes (line_of r)) (drop r.length (drop at bs)), length-drop at bs)
-
-pub some_read_line : (f : Form) (bs : List ℕ) (r : LineRead) → ReadsLine f bs r → 1 ≤ r.length
-some_read_line f bs r read = omega (arith, read.long, Rattle.ballot_text.proofs.Opening.some_line_bytes (line_of r))

@@ -5,14 +5,15 @@ use Rattle.ballot.specs.declared.refusal.Refusal.{Refusal}
 use Rattle.ballot.specs.declared.refusal.Refusal.TheVariants.{PlaceOutOfRange}
 use Rattle.forms.specs.Texts.{Holds}
 use Rattle.forms.specs.Written.{Form, Line, written_ranking, text_of}
-use Rattle.ballot_line.specs.Lines.{form_of, field_bytes, IsFirst, IsSecond}
+use Rattle.ballot_line.specs.Lines.{field_bytes, IsFirst, IsSecond}
 use Rattle.ballot_text.specs.Texts.{text_bytes}
+use Rattle.ballot_text.specs.declared.form.LineForm.{Ghosts}
 use Rattle.ballot_text.specs.declared.lines.BallotLines.{BallotLines}
 use Rattle.ballot_text.specs.declared.lines.fields.LineFields.{LineFields}
 
 -- the text holds these lines
-abbrev pub HasLines : BallotLines → List Line → Type 0
-HasLines s ls = Holds (form_of s.form) (slate s.contest.candidates) (text_bytes s.text.now) ls
+abbrev pub HasLines : {F : Type 0} {b : Ghosts F} → BallotLines F b → List Line → Type 0
+HasLines {b = b} s ls = Holds b.form (slate s.contest.candidates) (text_bytes s.text.now) ls
 
 -- x are the fields of the line with this number, from 1, and where it begins
 pub record FieldsAmong (f : Form) (ls : List Line) (number : ℕ) (x : LineFields) : Type 0 where
@@ -26,11 +27,11 @@ pub record FieldsAmong (f : Form) (ls : List Line) (number : ℕ) (x : LineField
   pub second_is : field_bytes x.second ≡ written_ranking line.numbers
   pub at_is : x.at ≡ length (text_of (take (number - 1) ls))
 
-abbrev pub FieldsOfLine : BallotLines → ℕ → LineFields → Type 0
-FieldsOfLine s number x = (ls : List Line) → HasLines s ls → FieldsAmong (form_of s.form) ls number x
+abbrev pub FieldsOfLine : {F : Type 0} {b : Ghosts F} → BallotLines F b → ℕ → LineFields → Type 0
+FieldsOfLine {b = b} s number x = (ls : List Line) → HasLines s ls → FieldsAmong b.form ls number x
 
 -- the number is 0, or there are fewer lines
-abbrev pub NoSuchLine : BallotLines → ℕ → Refusal → Type 0
+abbrev pub NoSuchLine : {F : Type 0} {b : Ghosts F} → BallotLines F b → ℕ → Refusal → Type 0
 NoSuchLine s number e = ((ls : List Line) → HasLines s ls → 1 ≤ number → length ls < number) × (e ≡ PlaceOutOfRange)
 
 -- the part is the written identifier of the row with this number, from 1, and begins at this byte of the text, from 0
@@ -42,5 +43,5 @@ pub record IdentifierAmong (ls : List Line) (number : ℕ) (part : List ℕ) (at
   pub part_is : part ≡ line.head
   pub at_is : at ≡ length (text_of (take (number - 1) ls))
 
-abbrev pub IdentifierOfRow : BallotLines → ℕ → List ℕ → ℕ → Type 0
+abbrev pub IdentifierOfRow : {F : Type 0} {b : Ghosts F} → BallotLines F b → ℕ → List ℕ → ℕ → Type 0
 IdentifierOfRow s number part at = (ls : List Line) → HasLines s ls → IdentifierAmong ls number part at

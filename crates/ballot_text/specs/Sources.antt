@@ -5,37 +5,25 @@ use Rattle.ballot.specs.Sources.{SoundSource}
 use Rattle.ballot.specs.Values.{contest_slate}
 use Rattle.forms.specs.Decoded.{decoded}
 use Rattle.forms.specs.Texts.{Holds}
-use Rattle.forms.specs.Written.{Form, Line, group_of}
-use Rattle.ballot_line.specs.Lines.{form_of}
+use Rattle.forms.specs.Written.{Line, group_of}
 use Rattle.ballot_text.specs.Sound.{reading_sound}
 use Rattle.ballot_text.specs.Texts.{text_bytes}
-use Rattle.ballot_line.specs.declared.field.TextForm.{TextForm}
+use Rattle.ballot_text.specs.declared.form.LineForm.{Ghosts}
 use Rattle.ballot_text.specs.declared.lines.BallotLines.{BallotLines}
 
 -- the groups of the text's lines
-abbrev pub line_groups : BallotLines → List BallotGroup
-line_groups s = decoded (form_of s.form) (text_bytes s.text.now)
+abbrev pub line_groups : {F : Type 0} {b : Ghosts F} → BallotLines F b → List BallotGroup
+line_groups {b = b} s = decoded b.form (text_bytes s.text.now)
 
--- the same lines for the same contest, at whatever place
-pub record SameText (s t : BallotLines) : Type 0 where
-  pub form : t.form ≡ s.form
-  pub contest : t.contest.candidates ≡ s.contest.candidates
-  pub bytes : text_bytes t.text.now ≡ text_bytes s.text.now
-
-pub lines_sound : (s : BallotLines) → SoundSource (contest_slate s.contest) (line_groups s) s.place
-lines_sound s = reading_sound (form_of s.form) s.contest.candidates (text_bytes s.text.now) s.ballots s.at s.place s.contest.proper s.reading
+pub lines_sound : {F : Type 0} {b : Ghosts F} (s : BallotLines F b) → SoundSource (contest_slate s.contest) (line_groups s) s.place
+lines_sound {b = b} s = reading_sound b.form s.contest.candidates (text_bytes s.text.now) s.ballots s.at s.place s.contest.proper s.reading
 
 -- a source for a contest of n that holds exactly the groups written, at its start
-pub record OpenedText (f : Form) (n : ℕ) (bs : List ℕ) (s : BallotLines) : Type 0 where
+pub record OpenedText {F : Type 0} {b : Ghosts F} (n : ℕ) (bs : List ℕ) (s : BallotLines F b) : Type 0 where
   pub proper : Proper (slate n)
-  pub form_is : form_of s.form ≡ f
   pub contest_is : s.contest.candidates ≡ n
   pub text_is : text_bytes s.text.now ≡ bs
   pub lines : List Line
-  pub holds : Holds f (slate n) bs lines
+  pub holds : Holds b.form (slate n) bs lines
   pub groups_are : line_groups s ≡ map group_of lines
   pub start : s.place ≡ 0
-
--- the same, and the form that it was opened for
-abbrev pub OpenedLines : TextForm → ℕ → List ℕ → BallotLines → Type 0
-OpenedLines form n bs s = OpenedText (form_of form) n bs s × (s.form ≡ form)

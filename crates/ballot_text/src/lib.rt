@@ -2,15 +2,14 @@
 #![tactic(auto)]
 
 mod fault;
-mod groups_text;
+mod form;
 mod lines;
-mod rows_text;
 #[cfg(test)]
 mod tests;
 mod text;
 
 pub use fault::Fault;
-pub use groups_text::GroupsText;
+pub use form::{Groups, LineForm, Rows};
 pub use lines::fields::LineFields;
-pub use rows_text::RowsText;
+pub use lines::{BallotLines, GroupsText, RowsText};
 pub use text::BallotText;

@@ -1,13 +1,13 @@
 // Texts that are refused, handed out and looked up.
 use crate::fault::Fault;
-use crate::groups_text::GroupsText;
-use crate::rows_text::RowsText;
+use crate::lines::{GroupsText, RowsText};
 use crate::text::BallotText;
 use ballot::refusal::Refusal;
 use ballot::source::BallotSource;
 use ballot_line::TextForm;
 use std::test::Fail;
 
+// The form is a value of the table here, and of a source it is a part of the type.
 fn fault_of(form: TextForm, candidates: u32, text: &str) -> Option<Fault> {
     let text = BallotText::new(text.as_bytes());
     match form {
@@ -16,20 +16,14 @@ fn fault_of(form: TextForm, candidates: u32, text: &str) -> Option<Fault> {
     }
 }
 
-// The number, line and byte of a refusal; zeros where the text is opened.
-fn outcome(form: TextForm, candidates: u32, text: &str) -> (u32, usize, usize) {
-    match fault_of(form, candidates, text) {
-        None => (0, 0, 0),
-        Some(fault) => (fault.cause.number(), fault.line, fault.byte),
-    }
+// The number, line and byte of a refusal, where the text is not opened.
+fn outcome(form: TextForm, candidates: u32, text: &str) -> Option<(u32, usize, usize)> {
+    fault_of(form, candidates, text).map(|fault| (fault.cause.number(), fault.line, fault.byte))
 }
 
-// The count of the next group, 0 where there is none.
-fn next_count(source: &mut GroupsText<'_, '_>) -> u32 {
-    match source.next() {
-        Some(group) => group.count(),
-        None => 0,
-    }
+// The count of the next group, if there is one.
+fn next_count(source: &mut GroupsText<'_, '_>) -> Option<u32> {
+    source.next().map(|group| group.count())
 }
 
 fn is_out_of_range(found: Result<(&[u8], usize), Refusal>) -> bool {
@@ -39,18 +33,18 @@ fn is_out_of_range(found: Result<(&[u8], usize), Refusal>) -> bool {
 #[test]
 fn texts_open_or_say_the_first_fault(rt: HostRuntime) {
     let table = [
-        ("", TextForm::Rows, 3, (0, 0, 0)),
-        ("A1;2,1\nB-2;-\n", TextForm::Rows, 3, (0, 0, 0)),
-        ("100000000;1\n", TextForm::Groups, 2, (0, 0, 0)),
-        ("A1;1\n", TextForm::Rows, 1, (1, 0, 0)),
-        ("A1;1\n", TextForm::Rows, 17, (1, 0, 0)),
-        ("A1;1", TextForm::Rows, 3, (8, 1, 5)),
-        ("5;1\n01;1\n", TextForm::Groups, 3, (8, 2, 2)),
-        ("0;4,x\n", TextForm::Groups, 3, (8, 1, 5)),
-        ("100000001;4\n", TextForm::Groups, 3, (10, 1, 1)),
-        ("99999999;1\n2;-\n", TextForm::Groups, 3, (10, 2, 1)),
-        ("A1;2,2\n", TextForm::Rows, 3, (9, 1, 6)),
-        ("12;3,1,4\n", TextForm::Groups, 3, (9, 1, 8)),
+        ("", TextForm::Rows, 3, None),
+        ("A1;2,1\nB-2;-\n", TextForm::Rows, 3, None),
+        ("100000000;1\n", TextForm::Groups, 2, None),
+        ("A1;1\n", TextForm::Rows, 1, Some((1, 0, 0))),
+        ("A1;1\n", TextForm::Rows, 17, Some((1, 0, 0))),
+        ("A1;1", TextForm::Rows, 3, Some((8, 1, 5))),
+        ("5;1\n01;1\n", TextForm::Groups, 3, Some((8, 2, 2))),
+        ("0;4,x\n", TextForm::Groups, 3, Some((8, 1, 5))),
+        ("100000001;4\n", TextForm::Groups, 3, Some((10, 1, 1))),
+        ("99999999;1\n2;-\n", TextForm::Groups, 3, Some((10, 2, 1))),
+        ("A1;2,2\n", TextForm::Rows, 3, Some((9, 1, 6))),
+        ("12;3,1,4\n", TextForm::Groups, 3, Some((9, 1, 8))),
     ];
     for (text, form, candidates, expected) in table {
         assert_eq!(rt; outcome(form, candidates, text), expected, "{}", text);
@@ -63,10 +57,10 @@ fn a_rewound_source_begins_again(rt: HostRuntime) -> Result<(), Fail> {
     let mut source = GroupsText::open(3, &text)?;
     assert_eq!(rt; source.ballots(), 12);
     for _ in 0..2 {
-        assert_eq!(rt; next_count(&mut source), 5);
-        assert_eq!(rt; next_count(&mut source), 7);
-        assert_eq!(rt; next_count(&mut source), 0);
-        assert_eq!(rt; next_count(&mut source), 0);
+        assert_eq!(rt; next_count(&mut source), Some(5));
+        assert_eq!(rt; next_count(&mut source), Some(7));
+        assert_eq!(rt; next_count(&mut source), None);
+        assert_eq!(rt; next_count(&mut source), None);
         source.rewind();
     }
     Ok(())

@@ -2,17 +2,20 @@
 // other count of them elects another.
 #![tactic(auto)]
 
-use anyhow::anyhow;
+use anyhow::Context;
 use ballot::source::BallotSource;
 use ballot::walk::groups_in;
 use ballot_line::TextForm;
 use ballot_text::{BallotText, Fault, GroupsText, RowsText};
+use elimination::count::Count;
 use elimination::count_step::CountStep;
 use elimination::counting::count_ballots;
 use elimination::recount::recount;
+use joined::Joined;
 use search::answer::Answer;
+use std::env::Args;
 use std::io::Read;
-use std::{env, io};
+use std::{env, io, iter};
 
 // How many endings the recount may try.
 const RECOUNT_LIMIT: u64 = 1_000_000;
@@ -27,132 +30,103 @@ struct Request {
     form: TextForm,
 }
 
-fn form_named(name: &str) -> Option<TextForm> {
-    match name {
-        "rows" => Some(TextForm::Rows),
-        "groups" => Some(TextForm::Groups),
-        _ => None,
-    }
-}
-
-fn requested(rt: &HostRuntime) -> anyhow::Result<Request> {
-    let mut args = env::args(rt)?;
-    let _ = args.next();
-    let Some(number) = args.next() else {
-        return Err(anyhow!("{USAGE}"));
-    };
-    let Some(name) = args.next() else {
-        return Err(anyhow!("{USAGE}"));
-    };
-    let Ok(candidates) = number.as_str().parse::<u32>() else {
-        return Err(anyhow!("{USAGE}"));
-    };
-    let Some(form) = form_named(name.as_str()) else {
-        return Err(anyhow!("{USAGE}"));
-    };
-    Ok(Request { candidates, form })
-}
-
-fn print_fault(rt: &HostRuntime, fault: &Fault) -> io::Result<()> {
-    let number = fault.cause.number();
-    let line = fault.line;
-    let byte = fault.byte;
-    println!(rt; "refused={number}")?;
-    println!(rt; "line={line}")?;
-    println!(rt; "byte={byte}")
+// What the arguments ask for; the first is the program's name. An `Option`, since the usage answers whatever is wrong.
+fn request_in(mut args: Args) -> Option<Request> {
+    let candidates = args.nth(1)?.as_str().parse().ok()?;
+    let form = args.next()?.as_str().parse().ok()?;
+    Some(Request { candidates, form })
 }
 
 // One step: the tallies of candidates 1, 2 and so on, and who goes out.
 fn print_step(
-    rt: &HostRuntime,
+    rt: &(impl Print + AllocGlobal),
     number: usize,
     step: &CountStep,
     candidates: u32,
 ) -> io::Result<()> {
-    let first = step.tally(1);
-    print!(rt; "step={number} tallies={first}")?;
-    for candidate in 2..candidates.saturating_add(1) {
-        let tally = step.tally(candidate);
-        print!(rt; ",{tally}")?;
-    }
-    let out = step.out();
-    println!(rt; " out={out}")
+    let tallies: Vec<u32> = (1..=candidates)
+        .map(|candidate| step.tally(candidate))
+        .collect(rt.alloc())?;
+    println!(rt;
+        "step={number} tallies={} out={}",
+        Joined(tallies.as_slice(), ","),
+        step.out()
+    )
+}
+
+// All candidates as they go out, the winner last.
+fn print_order(rt: &(impl Print + AllocGlobal), count: &Count) -> io::Result<()> {
+    let order: Vec<u32> = count
+        .steps()
+        .iter()
+        .map(|step| step.out())
+        .chain(iter::once(count.winner()))
+        .collect(rt.alloc())?;
+    println!(rt; "order={}", Joined(order.as_slice(), ","))
 }
 
 // Whether every count elects the winner, or the first that elects another.
-fn print_recount<S: BallotSource>(rt: &HostRuntime, source: &mut S, winner: u32) -> io::Result<()> {
-    let answer = match recount(source, winner, RECOUNT_LIMIT) {
-        Ok(answer) => answer,
-        Err(refusal) => {
-            let number = refusal.number();
-            return println!(rt; "recount: refused={number}");
+fn print_recount<S: BallotSource>(rt: &impl Print, source: &mut S, winner: u32) -> io::Result<()> {
+    match recount(source, winner, RECOUNT_LIMIT) {
+        Ok(Answer::NoSurvivor(tried)) => println!(rt;
+            "recount: every count elects {winner}, ties broken in any manner; {tried} endings tried"
+        ),
+        Ok(Answer::Found(order, tried)) => println!(rt;
+            "recount: another count does not elect {winner}, order={}; {tried} endings tried",
+            Joined(order.as_slice(), ",")
+        ),
+        Ok(Answer::Stopped) => {
+            println!(rt; "recount: stopped at its limit of {RECOUNT_LIMIT} endings")
         }
-    };
-    match answer {
-        Answer::NoSurvivor(tried) => {
-            println!(rt;
-                "recount: every count elects {winner}, ties broken in any manner; {tried} endings tried"
-            )
-        }
-        Answer::Found(order, tried) => {
-            print!(rt; "recount: another count does not elect {winner}, order=")?;
-            print_list(rt, order.as_slice())?;
-            println!(rt; "; {tried} endings tried")
-        }
-        Answer::Stopped => println!(rt; "recount: stopped at its limit of {RECOUNT_LIMIT} endings"),
+        Err(refusal) => println!(rt; "recount: refused={}", refusal.number()),
     }
 }
 
-fn print_list(rt: &HostRuntime, numbers: &[u32]) -> io::Result<()> {
-    for (i, number) in numbers.iter().enumerate() {
-        if i > 0 {
-            print!(rt; ",")?;
-        }
-        print!(rt; "{number}")?;
-    }
-    Ok(())
-}
-
-fn print_count<S: BallotSource>(rt: &HostRuntime, source: &mut S, form: &str) -> io::Result<()> {
-    let candidates = source.candidates();
-    let ballots = source.ballots();
+fn print_count<S: BallotSource>(
+    rt: &(impl Print + AllocGlobal),
+    source: &mut S,
+    form: TextForm,
+) -> io::Result<()> {
     let groups = groups_in(source);
     let count = count_ballots(source);
     let steps = count.steps();
-    for (i, step) in steps.iter().enumerate() {
-        print_step(rt, i.saturating_add(1), step, candidates)?;
+    for (step, number) in steps.iter().zip(1usize..) {
+        print_step(rt, number, step, source.candidates())?;
     }
-    print!(rt; "order=")?;
-    for step in steps {
-        let out = step.out();
-        print!(rt; "{out},")?;
-    }
+    print_order(rt, &count)?;
     let winner = count.winner();
-    println!(rt; "{winner}")?;
     println!(rt; "winner={winner}")?;
     print_recount(rt, source, winner)?;
-    let taken = steps.len();
-    println!(rt; "read {ballots} ballots in {groups} groups of {form} text, counted {taken} steps")
+    println!(rt;
+        "read {} ballots in {groups} groups of {form} text, counted {} steps",
+        source.ballots(),
+        steps.len()
+    )
 }
 
-fn run(rt: &HostRuntime) -> anyhow::Result<()> {
-    let request = requested(rt)?;
-    let mut bytes = Vec::new(rt.alloc());
-    rt.stdin().read_to_end(&mut bytes)?;
-    let text = BallotText::new(bytes.as_slice());
-    match request.form {
-        TextForm::Rows => match RowsText::open(request.candidates, &text) {
-            Ok(mut source) => print_count(rt, &mut source, "rows")?,
-            Err(fault) => print_fault(rt, &fault)?,
-        },
-        TextForm::Groups => match GroupsText::open(request.candidates, &text) {
-            Ok(mut source) => print_count(rt, &mut source, "groups")?,
-            Err(fault) => print_fault(rt, &fault)?,
-        },
+// The count of the ballots of a text, or the fault for which it was not opened.
+fn print_opened<S: BallotSource + Drop>(
+    rt: &(impl Print + AllocGlobal),
+    opened: Result<S, Fault>,
+    form: TextForm,
+) -> io::Result<()> {
+    match opened {
+        Ok(mut source) => print_count(rt, &mut source, form),
+        Err(Fault { cause, line, byte }) => {
+            println!(rt; "refused={}\nline={line}\nbyte={byte}", cause.number())
+        }
     }
-    Ok(())
 }
 
 fn main(rt: HostRuntime) -> anyhow::Result<()> {
-    run(&rt)
+    let Request { candidates, form } = request_in(env::args(&rt)?).context(USAGE)?;
+    let mut bytes = Vec::new(rt.alloc());
+    rt.stdin().read_to_end(&mut bytes)?;
+    let text = BallotText::new(bytes.as_slice());
+    // The form is what the arguments say, and of a source it is a part of the type.
+    match form {
+        TextForm::Rows => print_opened(&rt, RowsText::open(candidates, &text), form)?,
+        TextForm::Groups => print_opened(&rt, GroupsText::open(candidates, &text), form)?,
+    }
+    Ok(())
 }

@@ -1,7 +1,6 @@
 -- The records of a dossier stay fine: with one more, with one ended, with one tallied.
-use Rattle.std.proofs.Common.{◌≡◌, ℕ, zero, suc, ◌<◌, ◌≤◌, true, not, leb, List, [], ◌∷◌, ◌++◌, length, get_or, set, ℤ, nat_abs, is_some, Some, None, Option, sym, refl, ap, ◌∙◌, arith}
-use Rattle.std.proofs.lemmas.List.{get_or_default}
-use Rattle.std.proofs.lemmas.Bool.{and_parts, and_from, le-leb}
+use Rattle.std.proofs.Common.{◌≡◌, ℕ, zero, suc, ◌<◌, ◌≤◌, true, not, List, [], ◌∷◌, ◌++◌, length, get_or, set, nat_abs, is_some, Some, None, Option, refl, ap, ◌∙◌, arith}
+use Rattle.std.proofs.lemmas.Bool.{and_parts, and_from, leb-true}
 use Rattle.irv.specs.Ballots.{Slate}
 use Rattle.irv.specs.Assertions.{judged}
 use Rattle.assertion.specs.Kinds.{written_kind}
@@ -40,19 +39,15 @@ fine_set s (q ∷ rs) (suc i) r all one =
     and_from (fine_record s q) (all_fine s (set rs i r)) parts.0 (fine_set s rs i r parts.1 one)
 
 -- what an element that was read says
-pub fine_read : (s : Slate) (rs : List AssertionRecord) (i : ℕ) (r : AssertionRecord) → i < length rs → r ≡ get_or rs i r → all_fine s rs ≡ true → fine_record s r ≡ true
+fine_read : (s : Slate) (rs : List AssertionRecord) (i : ℕ) (r : AssertionRecord) → i < length rs → r ≡ get_or rs i r → all_fine s rs ≡ true → fine_record s r ≡ true
 fine_read s rs i r within is all = ap (fine_record s) is ∙ fine_at s rs i r within all
-
-pub fits_read : (s : Slate) (rs : List AssertionRecord) (i : ℕ) (r : AssertionRecord) → i < length rs → r ≡ get_or rs i r → all_fine s rs ≡ true → judged s (written_kind r.assertion) ≡ None
-fits_read s rs i r within is all = fits_none s r.assertion (and_parts (fits s r.assertion) _ (fine_read s rs i r within is all)).0
-
-pub same_read : (rs : List AssertionRecord) (i : ℕ) (r q : AssertionRecord) → i < length rs → r ≡ get_or rs i r → q ≡ get_or rs i q → r ≡ q
-same_read rs i r q within is also = is ∙ get_or_default rs i r q within ∙ sym also
-
-pub fine_margin : (s : Slate) (r : AssertionRecord) (m : ℤ) → fine_record s r ≡ true → nat_abs m ≤ most_value → fine_record s (record { assertion = r.assertion; live = r.live; margin = m }) ≡ true
-fine_margin s r m fine small = and_from (fits s r.assertion) (leb (nat_abs m) most_value) (and_parts (fits s r.assertion) _ fine).0 (le-leb (nat_abs m) most_value small)
 
 pub set_changed : (f : AssertionRecord → AssertionRecord) (rs : List AssertionRecord) (i : ℕ) (d : AssertionRecord) → i < length rs → set rs i (f (get_or rs i d)) ≡ changed_at f i rs
 set_changed f [] i d within = absurd (omega arith)
 set_changed f (r ∷ rs) zero d within = refl
 set_changed f (r ∷ rs) (suc i) d within = ap (λ qs. r ∷ qs) (set_changed f rs i d (omega arith))
+
+pub margin_read : (s : Slate) (rs qs : List AssertionRecord) (i : ℕ) (r : AssertionRecord) → qs ≡ rs → i < length qs → r ≡ get_or qs i r → all_fine s rs ≡ true → nat_abs r.margin ≤ most_value
+margin_read s rs qs i r same within is all =
+    let here = fine_read s qs i r within is (ap (all_fine s) same ∙ all) in
+    leb-true (nat_abs r.margin) most_value (and_parts (fits s r.assertion) _ here).1

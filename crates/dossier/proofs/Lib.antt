@@ -1,6 +1,5 @@
 pub mod Keeping
 pub mod Ruling
-pub mod Finding
 pub mod Tallying
 pub mod Asking
 pub mod Paging

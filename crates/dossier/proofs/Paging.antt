@@ -1,45 +1,40 @@
 -- The lines of a page, record by record.
-use Rattle.std.proofs.Common.{◌≡◌, ℕ, suc, ◌+◌, ◌*◌, ◌^◌, ◌<◌, ◌≤◌, max, true, false, cond, leb, List, [], ◌∷◌, ◌++◌, map, length, get_or, take, drop, nat_abs, codes, sym, refl, ap, ◌∙◌, div-le_self, arith}
-use Rattle.std.proofs.lemmas.List.{append_assoc, drop_more}
+use Rattle.std.proofs.Common.{◌≡◌, ℕ, suc, ◌+◌, ◌*◌, ◌^◌, ◌<◌, ◌≤◌, max, true, false, cond, leb, List, [], ◌∷◌, ◌++◌, map, length, get_or, take, nat_abs, codes, sym, refl, ap, ◌∙◌, div-le_self, arith}
+use Rattle.std.proofs.lemmas.List.{append_assoc}
 use Rattle.std.proofs.lemmas.Bool.{and_parts, leb-true}
-use Rattle.std.specs.List.{flat_map, AllByRecursion}
+use Rattle.std.specs.List.{fold, flat_map, AllByRecursion}
 use Rattle.irv.specs.Ballots.{Slate}
 use Rattle.audit.specs.Entries.{lines_from}
+use Rattle.assertion.specs.Kinds.{top_kind}
 use Rattle.assertion.specs.Sums.{most_value}
 use Rattle.assertion.specs.declared.assertion.Assertion.{Assertion}
-use Rattle.audit.specs.Pages.{share, number_line, assertion_line, largest}
+use Rattle.audit.specs.Pages.{share, sample, sample_of, number_line, assertion_line, largest}
 use Rattle.audit.specs.declared.records.AssertionRecord.{AssertionRecord}
 use Rattle.audit.proofs.Numbering.{line_at, lines_more}
 use Rattle.page.proofs.Lengths.{ShortLine}
+use Rattle.dossier.specs.Dossiers.{pulled_for}
 use Rattle.dossier.specs.Fine.{fits, fine_record, all_fine}
 use Rattle.dossier.proofs.Keeping.{fits_none}
 
-module _ (rs : List AssertionRecord) (i : ℕ) (r : AssertionRecord) (within : i < length rs) (is : r ≡ get_or rs i r) where
-  here : take 1 (drop i rs) ≡ r ∷ []
-  here = ap (take 1) (drop_more rs i r within) ∙ ap (λ q. q ∷ []) (sym is)
-
-  -- no line where the record that was read is not live, and else its line
-  pub no_line : r.live ≡ false → lines_from (1 + i) (take 1 (drop i rs)) ≡ []
-  no_line out = ap (lines_from (1 + i)) here ∙ ap (λ b. cond b (line_at (1 + i) r ∷ []) []) out
-
-  pub one_line : r.live ≡ true → lines_from (1 + i) (take 1 (drop i rs)) ≡ line_at (1 + i) r ∷ []
-  one_line live = ap (lines_from (1 + i)) here ∙ ap (λ b. cond b (line_at (1 + i) r ∷ []) []) live
+pub one_line : (k : ℕ) (r : AssertionRecord) → r.live ≡ true → lines_from k (r ∷ []) ≡ line_at k r ∷ []
+one_line k r live = ap (λ b. cond b (line_at k r ∷ []) []) live
 
 -- the lines of one record more
-pub lines_next : (rs : List AssertionRecord) (i : ℕ) → i < length rs → lines_from 1 (take i rs) ++ lines_from (1 + i) (take 1 (drop i rs)) ≡ lines_from 1 (take (i + 1) rs)
-lines_next [] i within = absurd (omega arith)
-lines_next (r ∷ rs) i within = let qs = r ∷ rs in ap (λ ls. lines_from 1 (take i qs) ++ ls) (ap (λ l. lines_from (1 + i) (take 1 l)) (drop_more qs i r within)) ∙ sym (lines_more qs i r within)
+pub lines_next : (rs qs : List AssertionRecord) (i : ℕ) (r : AssertionRecord) → qs ≡ rs → i < length qs → r ≡ get_or qs i r → lines_from 1 (take i rs) ++ lines_from (i + 1) (r ∷ []) ≡ lines_from 1 (take (i + 1) rs)
+lines_next rs qs i r same within is =
+    ap (λ n. lines_from 1 (take i rs) ++ lines_from n (r ∷ [])) (omega arith) ∙ ap (λ q. lines_from 1 (take i rs) ++ lines_from (1 + i) (q ∷ [])) (is ∙ ap (λ ps. get_or ps i r) same) ∙ sym (lines_more rs i r (omega (arith, ap length same)))
 
 pub joined_append : {X A : Type 0} (f : X → List A) (xs ys : List X) → flat_map f xs ++ flat_map f ys ≡ flat_map f (xs ++ ys)
 joined_append f [] ys = refl
 joined_append f (x ∷ xs) ys = append_assoc (f x) (flat_map f xs) (flat_map f ys) ∙ ap (λ zs. f x ++ zs) (joined_append f xs ys)
 
-pub alone : (x : ℕ) → max x 0 ≡ x
-alone x = omega arith
-
-pub largest_append : {X : Type 0} (f : X → ℕ) (xs ys : List X) → max (largest (map f xs)) (largest (map f ys)) ≡ largest (map f (xs ++ ys))
-largest_append f [] ys = omega arith
-largest_append f (x ∷ xs) ys = omega (arith, largest_append f xs ys)
+-- the largest of the lines' samples, record by record
+pub largest_from : (factor ballots most k : ℕ) (rs : List AssertionRecord) → fold (λ m r. max m (pulled_for factor ballots r)) most rs ≡ max most (largest (map (sample_of factor ballots) (lines_from k rs)))
+largest_from factor ballots most k [] = omega arith
+largest_from factor ballots most k (r ∷ rs) =
+    let most' = max most (pulled_for factor ballots r) in
+    let rest : fold (λ m r. max m (pulled_for factor ballots r)) most' rs ≡ max most' (largest (map (sample_of factor ballots) (lines_from (k + 1) rs))) = largest_from factor ballots most' (k + 1) rs in
+    rest ∙ (elim r.live as (λ b. max (max most (cond b (sample factor (top_kind r.assertion) (nat_abs r.margin) ballots) 0)) (largest (map (sample_of factor ballots) (lines_from (k + 1) rs))) ≡ max most (largest (map (sample_of factor ballots) (cond b (line_at k r ∷ lines_from (k + 1) rs) (lines_from (k + 1) rs))))) [ true ↦ omega arith | false ↦ omega arith ])
 
 -- the four lines of an assertion, by their figures
 abbrev pub four_lines : Assertion → ℕ → ℕ → ℕ → ℕ → List ℕ

@@ -1,8 +1,11 @@
 -- The records of a dossier while their margins grow, group by group.
-use Rattle.std.proofs.Common.{◌≡◌, ℕ, zero, suc, ◌+◌, ◌*◌, ◌<◌, ◌≤◌, true, false, cond, leb, List, [], ◌∷◌, ◌++◌, map, length, get_or, take, drop, ℤ, pos, ◌+ℤ◌, ◌-ℤ◌, nat_abs, None, sym, refl, ap, ◌∙◌, add-zero, suc-add, mul-zero, mul-add, arith}
+use Rattle.std.proofs.Common.{◌≡◌, ℕ, zero, suc, ◌+◌, ◌-◌, ◌*◌, ◌^◌, ◌<◌, ◌≤◌, ⊎_elim, true, false, cond, leb, List, [], ◌∷◌, ◌++◌, map, length, get_or, set, take, drop, w64, to_z, of_z, SFits, ℤ, pos, ◌+ℤ◌, ◌-ℤ◌, ◌*ℤ◌, negsuc, nat_abs, None, sym, refl, ap, ◌∙◌, add-zero, mul-zero, mul-add, arith}
 use borrow.Author.Differences.{abs_is}
-use Rattle.std.proofs.lemmas.List.{take_all, drop_all, take_more, get_or-drop, get_or-map, length-map, append-nil}
-use Rattle.std.proofs.lemmas.Int.{ints}
+use Rattle.std.proofs.lemmas.List.{take_more, get_or_default, get_or-drop, get_or-map, length-map}
+use Rattle.std.proofs.lemmas.Int.{ints, to_z-of_z, fits_signed_from_abs, fits_signed_mul}
+use Rattle.std.proofs.lemmas.List.Edits.{map_over_more}
+use Rattle.std.proofs.lemmas.Bool.{cases_lt}
+use Rattle.std.proofs.Math.Nat.{add-mul}
 use Rattle.std.proofs.lemmas.List.Sums.{sum_by_push, sum_by-take-le}
 use Rattle.std.proofs.lemmas.Bool.{and_parts, and_from, leb-true, le-leb}
 use Rattle.irv.specs.Ballots.{Slate, BallotGroup, Fits, ballots, most_ballots}
@@ -13,12 +16,10 @@ use Rattle.assertion.specs.declared.assertion.Assertion.{Assertion}
 use Rattle.irv.proofs.Adding.{next_within}
 use Rattle.assertion.specs.Sound.{any_kind_law}
 use Rattle.assertion.proofs.Summing.{sum_small, halves_fit}
-use Rattle.audit.specs.Calls.{changed_at, retallied}
+use Rattle.audit.specs.Calls.{retallied}
 use Rattle.audit.specs.declared.records.AssertionRecord.{AssertionRecord}
-use Rattle.audit.specs.States.{State}
-use Rattle.dossier.specs.Dossiers.{holding}
 use Rattle.dossier.specs.Fine.{fits, fine_record, all_fine}
-use Rattle.dossier.specs.Tallies.{gain_of, Bounded, with_margin, cleared, with_group, on_groups}
+use Rattle.dossier.specs.Tallies.{gain_of, Bounded, with_margin, cleared, with_group}
 use Rattle.dossier.proofs.Keeping.{fits_none, fine_at}
 
 -- records changed by f one after the other: those before place i are, and the others are not yet
@@ -26,29 +27,15 @@ module _ (f : AssertionRecord → AssertionRecord) where
   abbrev pub partly : ℕ → List AssertionRecord → List AssertionRecord
   partly i rs = map f (take i rs) ++ drop i rs
 
-  pub partly_more : (i : ℕ) (rs : List AssertionRecord) → i < length rs → changed_at f i (partly i rs) ≡ partly (i + 1) rs
-  partly_more i [] within = absurd (omega arith)
-  partly_more zero (r ∷ rs) within = refl
-  partly_more (suc i) (r ∷ rs) within = ap (λ qs. f r ∷ qs) (partly_more i rs (omega arith)) ∙ ap (λ n. partly n (r ∷ rs)) (sym (suc-add i 1))
-
-  pub length_partly : (i : ℕ) (rs : List AssertionRecord) → length (partly i rs) ≡ length rs
+  length_partly : (i : ℕ) (rs : List AssertionRecord) → length (partly i rs) ≡ length rs
   length_partly zero rs = refl
   length_partly (suc i) [] = refl
   length_partly (suc i) (r ∷ rs) = ap suc (length_partly i rs)
 
-  pub partly_at : (i : ℕ) (rs : List AssertionRecord) (d : AssertionRecord) → i < length rs → get_or (partly i rs) i d ≡ get_or rs i d
+  partly_at : (i : ℕ) (rs : List AssertionRecord) (d : AssertionRecord) → i < length rs → get_or (partly i rs) i d ≡ get_or rs i d
   partly_at i [] d within = absurd (omega arith)
   partly_at zero (r ∷ rs) d within = refl
   partly_at (suc i) (r ∷ rs) d within = partly_at i rs d (omega arith)
-
-  pub partly_all : (i : ℕ) (rs : List AssertionRecord) → length rs ≤ i → partly i rs ≡ map f rs
-  partly_all i rs past = ap (λ qs. map f qs ++ drop i rs) (take_all i rs past) ∙ ap (λ qs. map f rs ++ qs) (drop_all i rs past) ∙ append-nil (map f rs)
-
-  -- a record of which only the margin changes
-  pub margin_changed : (rs : List AssertionRecord) (i : ℕ) (r : AssertionRecord) (m : ℤ) → i < length rs → r ≡ get_or rs i r → with_margin m r ≡ f r → changed_at (with_margin m) i rs ≡ changed_at f i rs
-  margin_changed [] i r m within is same = refl
-  margin_changed (q ∷ rs) zero r m within is same = ap (λ x. x ∷ rs) (ap (with_margin m) (sym is) ∙ same ∙ ap f is)
-  margin_changed (q ∷ rs) (suc i) r m within is same = ap (λ qs. q ∷ qs) (margin_changed rs i r m (omega arith) is same)
 
 map_map : (f g h : AssertionRecord → AssertionRecord) → ((r : AssertionRecord) → f (g r) ≡ h r) → (rs : List AssertionRecord) → map f (map g rs) ≡ map h rs
 map_map f g h same [] = refl
@@ -90,12 +77,7 @@ margin_small s gs a fine few =
     between m n top low high = omega (arith, ints, abs_is (pos m -ℤ pos n))
 
 -- the records stay fine
-pub fine_cleared : (s : Slate) (r : AssertionRecord) → fine_record s r ≡ true → nat_abs (cleared r).margin ≤ most_value
-fine_cleared s r fine =
-    let small : nat_abs r.margin ≤ most_value = leb-true (nat_abs r.margin) most_value (and_parts (fits s r.assertion) _ fine).1 in
-    elim r.live as (λ b. nat_abs (cond b (pos 0) r.margin) ≤ most_value) [ true ↦ omega arith | false ↦ small ]
-
-pub fine_retallied : (s : Slate) (gs : List BallotGroup) (rs : List AssertionRecord) → ballots gs ≤ most_ballots → all_fine s rs ≡ true → all_fine s (map (retallied s gs) rs) ≡ true
+fine_retallied : (s : Slate) (gs : List BallotGroup) (rs : List AssertionRecord) → ballots gs ≤ most_ballots → all_fine s rs ≡ true → all_fine s (map (retallied s gs) rs) ≡ true
 fine_retallied s gs [] few fine = refl
 fine_retallied s gs (r ∷ rs) few fine =
     let parts = and_parts (fine_record s r) (all_fine s rs) fine in
@@ -114,42 +96,89 @@ taken_more gs p g here = take_more gs p g (next_within gs p g (drop (p + 1) gs) 
 pub few_taken : (s : Slate) (gs : List BallotGroup) (p : ℕ) → Fits s gs → ballots (take p gs) ≤ most_ballots
 few_taken s gs p fit = omega (arith, sum_by-take-le (λ g. g.count) gs p, fit.sum)
 
--- one turn of a loop that changes the margin of each record by f
-module _ (f : AssertionRecord → AssertionRecord) (s₀ s₁ : State) (rs : List AssertionRecord) (i : ℕ) (so_far : s₁ ≡ holding (partly f i rs) s₀) where
-  pub still_long : length s₁.records ≡ length rs
-  still_long = ap (λ t. length t.records) so_far ∙ length_partly f i rs
+-- one turn of a loop that changes each record by f
+module _ (f : AssertionRecord → AssertionRecord) (rs qs : List AssertionRecord) (i : ℕ) where
+  -- the record at the place is not changed yet
+  not_yet : (d : AssertionRecord) → i < length rs → qs ≡ partly f i rs → get_or qs i d ≡ get_or rs i d
+  not_yet d within so_far = ap (λ ps. get_or ps i d) so_far ∙ partly_at f i rs d within
 
-  module _ (r : AssertionRecord) (within : i < length rs) (is : r ≡ get_or s₁.records i r) where
-    pub not_yet : r ≡ get_or rs i r
-    not_yet = is ∙ ap (λ t. get_or t.records i r) so_far ∙ partly_at f i rs r within
+  pub next_turn : (r d : AssertionRecord) → i < length rs → qs ≡ partly f i rs → r ≡ f (get_or qs i d) → set qs i r ≡ partly f (i + 1) rs
+  next_turn r d within so_far is =
+      let inside : i < length qs = omega (arith, ap length so_far, length_partly f i rs) in
+      ap (set qs i) is ∙ map_over_more f rs qs i (get_or qs i d) within so_far (get_or_default qs i d (get_or qs i d) inside)
 
-    pub next_turn : (s₂ : State) (m : ℤ) → with_margin m r ≡ f r → s₂ ≡ holding (changed_at (with_margin m) i s₁.records) s₁ → s₂ ≡ holding (partly f (i + 1) rs) s₀
-    next_turn s₂ m same kept =
-        let long : i < length s₁.records = omega (arith, still_long) in
-        kept ∙ ap (λ qs. holding qs s₁) (margin_changed f s₁.records i r m long is same) ∙ ap (λ t. holding (changed_at f i t.records) t) so_far ∙ ap (λ qs. holding qs s₀) (partly_more f i rs within)
+-- the next record of records that will be fine with one group more
+module _ (s : Slate) (g : BallotGroup) (rs qs : List AssertionRecord) (i : ℕ) (d : AssertionRecord) (within : i < length rs) (so_far : qs ≡ partly (with_group g) i rs) (fine : all_fine s (map (with_group g) rs) ≡ true) where
+  next_fine : fine_record s (with_group g (get_or qs i d)) ≡ true
+  next_fine =
+      let f = with_group g in
+      let also : i < length (map f rs) = omega (arith, length-map rs f) in
+      ap (λ q. fine_record s (f q)) (not_yet f rs qs i d within so_far) ∙ ap (fine_record s) (sym (get_or-map f rs i d (f d) within)) ∙ fine_at s (map f rs) i (f d) also fine
 
--- a record that will be fine with one group more
-pub fine_with : (s : Slate) (g : BallotGroup) (rs : List AssertionRecord) (i : ℕ) (r : AssertionRecord) → i < length rs → r ≡ get_or rs i r → all_fine s (map (with_group g) rs) ≡ true → Bounded r.assertion × (nat_abs (with_group g r).margin ≤ most_value)
-fine_with s g rs i r within is fine =
-    let inside : i < length (map (with_group g) rs) = omega (arith, length-map rs (with_group g)) in
-    let here : fine_record s (with_group g r) ≡ true = ap (λ q. fine_record s (with_group g q)) is ∙ ap (fine_record s) (sym (get_or-map (with_group g) rs i r (with_group g r) within)) ∙ fine_at s (map (with_group g) rs) i (with_group g r) inside fine in
-    let parts = and_parts (fits s r.assertion) (leb (nat_abs (with_group g r).margin) most_value) here in
-    (bounded s r.assertion (fits_none s r.assertion parts.0), leb-true (nat_abs (with_group g r).margin) most_value parts.1)
+  pub bounded_next : Bounded (get_or qs i d).assertion
+  bounded_next = bounded s (get_or qs i d).assertion (fits_none s (get_or qs i d).assertion (and_parts (fits s (get_or qs i d).assertion) _ next_fine).0)
+
+  pub small_next : nat_abs (with_group g (get_or qs i d)).margin ≤ most_value
+  small_next = leb-true (nat_abs (with_group g (get_or qs i d)).margin) most_value (and_parts (fits s (get_or qs i d).assertion) _ next_fine).1
 
 -- the margins on no group, on one group more, and from where a tally started
 cleared_again : (s : Slate) (gs : List BallotGroup) (r : AssertionRecord) → retallied s gs (cleared r) ≡ retallied s gs r
 cleared_again s gs r =
     elim r.live as (λ b. with_margin (cond b (margin (value_kind r.assertion) (half_kind r.assertion) s gs) (cond b (pos 0) r.margin)) r ≡ with_margin (cond b (margin (value_kind r.assertion) (half_kind r.assertion) s gs) r.margin) r) [ true ↦ refl | false ↦ refl ]
 
-pub from_cleared : (gs : List BallotGroup) (t u : State) → u ≡ holding (map cleared t.records) t → on_groups gs u ≡ on_groups gs t
-from_cleared gs t u is = ap (on_groups gs) is ∙ ap (λ rs. holding rs t) (map_map (retallied t.opening.slate gs) cleared (retallied t.opening.slate gs) (cleared_again t.opening.slate gs) t.records)
+pub from_cleared : (s : Slate) (gs : List BallotGroup) (rs : List AssertionRecord) → map (retallied s gs) (map cleared rs) ≡ map (retallied s gs) rs
+from_cleared s gs rs = map_map (retallied s gs) cleared (retallied s gs) (cleared_again s gs) rs
 
-pub on_none : (t u : State) → u ≡ holding (map cleared t.records) t → u ≡ on_groups [] u
-on_none t u is = is ∙ ap (λ rs. holding rs t) (cleared_is t.opening.slate t.records) ∙ sym (from_cleared [] t u is)
+pub cleared_twice : (rs : List AssertionRecord) → map cleared rs ≡ map cleared (map cleared rs)
+cleared_twice rs = sym (map_map cleared cleared cleared (λ r. elim r.live as (λ b. with_margin (cond b (pos 0) (cond b (pos 0) r.margin)) r ≡ with_margin (cond b (pos 0) r.margin) r) [ true ↦ refl | false ↦ refl ]) rs)
 
-pub on_more : (gs : List BallotGroup) (g : BallotGroup) (t u v : State) → u ≡ on_groups gs t → v ≡ holding (map (with_group g) u.records) u → v ≡ on_groups (gs ++ (g ∷ [])) t
-on_more gs g t u v before after = after ∙ ap (λ x. holding (map (with_group g) x.records) x) before ∙ ap (λ rs. holding rs t) (more_records t.opening.slate gs g t.records)
+pub fine_cleared : (s : Slate) (rs : List AssertionRecord) → all_fine s rs ≡ true → all_fine s (map cleared rs) ≡ true
+fine_cleared s rs fine = ap (all_fine s) (cleared_is s rs) ∙ fine_retallied s [] rs (omega arith) fine
 
-pub fine_more : (gs : List BallotGroup) (g : BallotGroup) (t u : State) → u ≡ on_groups gs t → ballots (gs ++ (g ∷ [])) ≤ most_ballots → all_fine t.opening.slate t.records ≡ true → all_fine u.opening.slate (map (with_group g) u.records) ≡ true
-fine_more gs g t u before few fine =
-    ap (λ x. all_fine x.opening.slate (map (with_group g) x.records)) before ∙ ap (all_fine t.opening.slate) (more_records t.opening.slate gs g t.records) ∙ fine_retallied t.opening.slate (gs ++ (g ∷ [])) t.records few fine
+pub fine_more : (s : Slate) (gs : List BallotGroup) (g : BallotGroup) (rs qs : List AssertionRecord) → qs ≡ map (retallied s gs) rs → ballots (gs ++ (g ∷ [])) ≤ most_ballots → all_fine s rs ≡ true → all_fine s (map (with_group g) qs) ≡ true
+fine_more s gs g rs qs so_far few fine =
+    ap (λ ps. all_fine s (map (with_group g) ps)) so_far ∙ ap (all_fine s) (more_records s gs g rs) ∙ fine_retallied s (gs ++ (g ∷ [])) rs few fine
+
+pub fine_tallied : (s t : Slate) (gs : List BallotGroup) (rs qs : List AssertionRecord) → t ≡ s → qs ≡ map (retallied t gs) rs → ballots gs ≤ most_ballots → all_fine s rs ≡ true → all_fine s qs ≡ true
+fine_tallied s t gs rs qs same is few fine = ap (all_fine s) (is ∙ ap (λ u. map (retallied u gs) rs) same) ∙ fine_retallied s gs rs few fine
+
+-- a difference times a number
+times : (v h n : ℕ) → (pos v -ℤ pos h) *ℤ pos n ≡ pos (v * n) -ℤ pos (h * n)
+times v h n = ⊎_elim below above (cases_lt v h)
+  where
+    below : v < h → (pos v -ℤ pos h) *ℤ pos n ≡ pos (v * n) -ℤ pos (h * n)
+    below low =
+        let m = h - suc v in
+        let by : pos v -ℤ pos h ≡ negsuc m = omega (arith, ints) in
+        let parts : h * n ≡ v * n + suc m * n = (let e : h ≡ v + suc m = omega arith in ap (λ k. k * n) e ∙ add-mul v (suc m) n) in
+        ap (λ z. z *ℤ pos n) by ∙ omega (arith, ints, parts)
+
+    above : h ≤ v → (pos v -ℤ pos h) *ℤ pos n ≡ pos (v * n) -ℤ pos (h * n)
+    above high =
+        let m = v - h in
+        let by : pos v -ℤ pos h ≡ pos m = omega (arith, ints) in
+        let parts : v * n ≡ h * n + m * n = (let e : v ≡ h + m = omega arith in ap (λ k. k * n) e ∙ add-mul h m n) in
+        ap (λ z. z *ℤ pos n) by ∙ omega (arith, ints, parts)
+
+-- the gain of values, a half and a count that are small, as the code computes it
+module _ (x y z : ℤ) (v h n : ℕ) (xv : x ≡ pos v) (yh : y ≡ pos h) (zn : z ≡ pos n) (value : v ≤ 1000) (half : h ≤ 1000) (few : n < 2 ^ 32) where
+  abbrev above : ℤ
+  above = to_z w64 (of_z w64 (to_z w64 (of_z w64 x) -ℤ to_z w64 (of_z w64 y)))
+
+  above_is : above ≡ pos v -ℤ pos h
+  above_is =
+      let first : SFits w64 (pos v) = fits_signed_from_abs w64 (pos v) (omega arith) in
+      let second : SFits w64 (pos h) = fits_signed_from_abs w64 (pos h) (omega arith) in
+      let difference : SFits w64 (pos v -ℤ pos h) = fits_signed_from_abs w64 (pos v -ℤ pos h) (omega (arith, ints, abs_is (pos v -ℤ pos h))) in
+      rw (xv, yh) (simp to_z-of_z)
+
+  count_is : to_z w64 (of_z w64 z) ≡ pos n
+  count_is =
+      let third : SFits w64 (pos n) = fits_signed_from_abs w64 (pos n) (omega arith) in
+      rw zn (simp to_z-of_z)
+
+  pub gain_fits : SFits w64 (above *ℤ to_z w64 (of_z w64 z))
+  gain_fits = rw (above_is, count_is) (fits_signed_mul w64 (pos v -ℤ pos h) (pos n) 1000 (2 ^ 32) (omega (arith, ints, abs_is (pos v -ℤ pos h))) (omega arith) (omega arith))
+
+  pub gain_told : to_z w64 (of_z w64 (above *ℤ to_z w64 (of_z w64 z))) ≡ pos (v * n) -ℤ pos (h * n)
+  gain_told = to_z-of_z w64 _ gain_fits ∙ rw (above_is, count_is) (times v h n)

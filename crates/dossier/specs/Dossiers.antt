@@ -1,10 +1,11 @@
 -- What a dossier stands for, and what its parts promise.
-use Rattle.std.specs.Prelude.{◌≡◌, ℕ, ◌+◌, ◌<◌, true, false, List, [], ◌∷◌, ◌++◌, length, take, drop, Some, None, Ok, Err, vec_items, Option, Result, MatchResult}
+use Rattle.std.specs.Prelude.{◌≡◌, ℕ, ◌+◌, ◌<◌, true, false, cond, List, [], ◌∷◌, ◌++◌, length, take, drop, Some, None, Ok, Err, vec_items, Option, Result, MatchResult, unsigned_abs}
 use Rattle.irv.specs.Ballots.{slate}
 use Rattle.ballot.specs.declared.refusal.Refusal.{Refusal}
 use Rattle.ballot.specs.declared.refusal.Refusal.TheVariants.{NumberNotLive, NotChecked, NotTallied}
-use Rattle.audit.specs.Entries.{Line, lines_from, is_among}
-use Rattle.audit.specs.Pages.{page}
+use Rattle.assertion.specs.Kinds.{top_kind}
+use Rattle.audit.specs.Entries.{lines_from, is_among}
+use Rattle.audit.specs.Pages.{page, sample}
 use Rattle.audit.specs.Calls.{page_of}
 use Rattle.audit.specs.States.{Opening, State, standing, has_check, has_tally, with_check, with_tally, first_some, unless_so, opening_refusal}
 use Rattle.audit.specs.declared.records.AssertionRecord.{AssertionRecord}
@@ -47,17 +48,14 @@ lacking Margin g = unless_so (has_tally g) NotTallied
 abbrev pub at_stage : Stage → State → State
 at_stage g s = record { opening = s.opening; records = s.records; stage = g; endings = s.endings; ballots = s.ballots }
 
-abbrev pub holding : List AssertionRecord → State → State
-holding rs s = record { opening = s.opening; records = rs; stage = s.stage; endings = s.endings; ballots = s.ballots }
-
 -- the place, from 0, of the live record with this number, or that there is none
 abbrev pub LivePlace : State → ℕ → Result ℕ Refusal → Type 0
 LivePlace s n r =
     MatchResult r (λ i. (is_among n (standing s).live ≡ true) × ((i + 1 ≡ n) × (i < length s.records))) (λ e. (is_among n (standing s).live ≡ false) × (e ≡ NumberNotLive))
 
--- the line of the record at place i, from 0, if it is live
-abbrev pub lines_at : ℕ → Dossier → List Line
-lines_at i d = lines_from (1 + i) (take 1 (drop i (vec_items d.records)))
+-- how many ballots to pull for a record: none where it is not live
+abbrev pub pulled_for : ℕ → ℕ → AssertionRecord → ℕ
+pulled_for factor ballots r = cond r.live (sample factor (top_kind r.assertion) (unsigned_abs r.margin) ballots) 0
 
 -- the page by what the dossier holds now, whatever its marks
 abbrev pub page_shown : Dossier → List ℕ

@@ -1,12 +1,9 @@
 -- How the margins of a dossier's records grow, group by group.
-use Rattle.std.specs.Prelude.{ℕ, ◌*◌, ◌≤◌, cond, List, map, ℤ, pos, ◌+ℤ◌, ◌-ℤ◌}
+use Rattle.std.specs.Prelude.{ℕ, ◌*◌, ◌≤◌, cond, List, ℤ, pos, ◌+ℤ◌, ◌-ℤ◌}
 use Rattle.irv.specs.Ballots.{BallotGroup}
 use Rattle.assertion.specs.Kinds.{value_kind, half_kind}
 use Rattle.assertion.specs.declared.assertion.Assertion.{Assertion}
-use Rattle.audit.specs.Calls.{retallied}
-use Rattle.audit.specs.States.{State}
 use Rattle.audit.specs.declared.records.AssertionRecord.{AssertionRecord}
-use Rattle.dossier.specs.Dossiers.{holding}
 
 -- what a group adds to the margin of an assertion
 abbrev pub gain_of : Assertion → BallotGroup → ℤ
@@ -25,7 +22,3 @@ cleared r = with_margin (cond r.live (pos 0) r.margin) r
 
 abbrev pub with_group : BallotGroup → AssertionRecord → AssertionRecord
 with_group g r = with_margin (cond r.live (r.margin +ℤ gain_of r.assertion g) r.margin) r
-
--- the margins of the live records on these groups
-abbrev pub on_groups : List BallotGroup → State → State
-on_groups gs t = holding (map (retallied t.opening.slate gs) t.records) t

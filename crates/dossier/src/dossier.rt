@@ -19,7 +19,8 @@ mod staging;
 mod tallying;
 
 // The assertions entered so far, in the order of their numbers from 1, with room for all that may ever be entered.
-// `endings` is how many endings the last accepting check tried, and `ballots` how many the last tally read.
+// `endings` is how many endings the last accepting check tried, and `ballots` how many the last tally read. They stand
+// beside the stage and not in it, since the states of audit hold them at every stage.
 #[derive(Drop)]
 pub struct Dossier {
     contest: Contest,

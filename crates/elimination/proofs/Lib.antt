@@ -1,1 +1,4 @@
 pub mod Tabling
+pub mod Fewer
+pub mod Picking
+pub mod Stepping

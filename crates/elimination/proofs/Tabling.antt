@@ -14,7 +14,7 @@ abbrev pub outs : CountStep → ℕ
 outs x = x.out
 
 abbrev pub tables : CountStep → List ℕ
-tables x = x.tallies
+tables x = x.tallies.counts
 
 -- who is not in the list has no ballots while those in it stand
 none_shown : (s : Slate) (gs : List BallotGroup) (o : List ℕ) (ts : List ℕ) → Shows s gs (set_of o) ts → (c : ℕ) → mem c o ≡ false → shown ts c ≡ 0
@@ -23,5 +23,5 @@ none_shown s gs o ts table c out = table c ∙ out_has_none s gs (set_of o) c (l
 pub tabled : (s : Slate) (gs : List BallotGroup) (R : Set) (xs : List CountStep) (Q : Set) (w : ℕ) → Leads outs tables s gs R xs Q → set_of (w ∷ []) ≡ Q → Tabled s gs xs w
 tabled s gs R [] Q w path e = tt
 tabled s gs R (x ∷ xs) Q w path e =
-    let table : Shows s gs (set_of (order_of (x ∷ xs) w)) x.tallies = subst (λ S. Shows s gs S x.tallies) (sym (path_set outs tables s gs R (x ∷ xs) Q (w ∷ []) path e)) path.1.0.table in
-    (table, (none_shown s gs (order_of (x ∷ xs) w) x.tallies table, tabled s gs path.0 xs Q w path.1.1 e))
+    let table : Shows s gs (set_of (order_of (x ∷ xs) w)) x.tallies.counts = subst (λ S. Shows s gs S x.tallies.counts) (sym (path_set outs tables s gs R (x ∷ xs) Q (w ∷ []) path e)) path.1.0.table in
+    (table, (none_shown s gs (order_of (x ∷ xs) w) x.tallies.counts table, tabled s gs path.0 xs Q w path.1.1 e))

@@ -1,14 +1,15 @@
 -- What a count stands for: its order of elimination, and the tallies of each step.
-use Rattle.std.specs.Prelude.{◌≡◌, ℕ, ◌≤◌, true, false, List, [], ◌∷◌, ◌++◌, map, take}
+use Rattle.std.specs.Prelude.{◌≡◌, ℕ, ◌≤◌, true, false, List, [], ◌∷◌, ◌++◌, map}
 use Rattle.irv.specs.Sets.{Set, has, set_of}
 use Rattle.irv.specs.Ballots.{Slate, mem, BallotGroup}
 use Rattle.irv.specs.Orders.{EachStep, CountOf, LowestOfTied}
-use Rattle.irv.specs.Tables.{shown, Shows, StepFrom}
+use Rattle.irv.specs.Tables.{shown, Shows}
+use Rattle.fixed_list.specs.Lists.{listed}
 use Rattle.elimination.specs.declared.count_step.CountStep.{CountStep}
 use Rattle.elimination.specs.declared.count.Count.{Count}
 
 abbrev pub steps_of : Count → List CountStep
-steps_of k = take k.len k.steps
+steps_of k = listed k.steps
 
 -- those who went out, in that order, and then who is left
 abbrev pub order_of : List CountStep → ℕ → List ℕ
@@ -18,12 +19,8 @@ order_of xs winner = map (λ x. x.out) xs ++ (winner ∷ [])
 abbrev pub Tabled : Slate → List BallotGroup → List CountStep → ℕ → Type 0
 Tabled s gs [] winner = Unit {0}
 Tabled s gs (x ∷ xs) winner =
-    Shows s gs (set_of (order_of (x ∷ xs) winner)) x.tallies
-    × (((c : ℕ) → mem c (order_of (x ∷ xs) winner) ≡ false → shown x.tallies c ≡ 0) × Tabled s gs xs winner)
-
--- where anybody is in R, and nobody above 16, x is a step from R that leaves Q
-abbrev pub StepIfAny : Slate → List BallotGroup → Set → CountStep → Set → Type 0
-StepIfAny s gs R x Q = ((c : ℕ) → has R c ≡ true → c ≤ 16) → (d : ℕ) → has R d ≡ true → StepFrom s gs R x.out x.tallies Q
+    Shows s gs (set_of (order_of (x ∷ xs) winner)) x.tallies.counts
+    × (((c : ℕ) → mem c (order_of (x ∷ xs) winner) ≡ false → shown x.tallies.counts c ≡ 0) × Tabled s gs xs winner)
 
 -- a count of the ballots in which ties send out the lowest number, with the tallies of each step
 pub record OneCount (s : Slate) (gs : List BallotGroup) (xs : List CountStep) (winner : ℕ) : Type 0 where

@@ -2,24 +2,13 @@
 ghost use Rattle.std.specs.Prelude.{◌≡◌};
 ghost use Rattle.irv.specs.Tables.{shown};
 
-// Who goes out, and how many ballots each candidate has; candidate 1 stands at the first place.
-#[derive(Clone, Copy)]
+use crate::tallies::Tallies;
+
+// Who goes out, and how many ballots each candidate has.
+#[derive(Clone, Copy, Default)]
 pub struct CountStep {
     pub(crate) out: u32,
-    pub(crate) tallies: [u32; 16],
-}
-
-// What the table shows of `candidate`; a number outside 1 to 16 has 0.
-pub(crate) fn shown_in(tallies: &[u32; 16], candidate: u32) -> u32
-    ensures { result ≡ shown tallies.now candidate }
-{
-    if candidate < 1 {
-        return 0;
-    }
-    if candidate > 16 {
-        return 0;
-    }
-    tallies[(candidate - 1) as usize]
+    pub(crate) tallies: Tallies,
 }
 
 impl CountStep {
@@ -32,8 +21,8 @@ impl CountStep {
 
     // How many ballots `candidate` has at this step: 0 if it is out, or if it is no candidate.
     pub fn tally(&self, candidate: u32) -> u32
-        ensures { result ≡ shown self.now.tallies candidate }
+        ensures { result ≡ shown self.now.tallies.counts candidate }
     {
-        shown_in(&self.tallies, candidate)
+        self.tallies.of(candidate)
     }
 }

@@ -5,8 +5,8 @@ mod ballots_rule;
 pub mod count;
 pub mod count_step;
 pub mod counting;
-mod least;
 pub mod recount;
+mod tallies;
 mod tallying;
 #[cfg(test)]
 mod tests;

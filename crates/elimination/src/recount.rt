@@ -2,6 +2,7 @@
 ghost use Rattle.std.specs.Prelude.{◌≡◌, true, false, MatchResult, OnErr};
 ghost use Rattle.irv.specs.Ballots.{member};
 ghost use Rattle.irv.specs.Recounts.{ballots_ruling, RecountLaws};
+ghost use Rattle.ballot.specs.Sources.{SameBallots};
 ghost use Rattle.ballot.specs.declared.refusal.Refusal.TheVariants.{WinnerNotCandidate};
 ghost use Rattle.search.specs.Searches.{Searched};
 
@@ -18,16 +19,11 @@ use search::searching::find_survivor;
 pub fn recount<S: BallotSource>(source: &mut S, winner: u32, limit: u64) -> Result<Answer, Refusal>
     ensures answer { MatchResult result (λ a. (member (S.contest source.old) winner ≡ true) × Searched (S.contest source.old) (ballots_ruling (S.contest source.old) (S.groups source.old)) winner limit a) (λ e. (member (S.contest source.old) winner ≡ false) × (e ≡ WinnerNotCandidate)) }
     ensures laws { RecountLaws }
-    ensures same_contest { S.contest source.new ≡ S.contest source.old }
-    ensures same_groups { S.groups source.new ≡ S.groups source.old }
+    ensures same { SameBallots S.contest S.groups source.old source.new }
     ensures refused_place { OnErr result (S.place source.new ≡ S.place source.old) }
 {
     if !contest_of(source).is_candidate(winner) {
         return Err(Refusal::WinnerNotCandidate);
     }
-    let mut rule = BallotsRule { source };
-    match find_survivor(&mut rule, winner, limit) {
-        Ok(answer) => Ok(answer),
-        Err(_) => unreachable(),
-    }
+    find_survivor(&mut BallotsRule { source }, winner, limit)
 }

@@ -15,17 +15,11 @@ fn group(contest: Contest, count: u32, candidates: &[u32]) -> Result<Group, Refu
 
 // Whether the answer is this order, first out first, after so many endings.
 fn is_found(answer: Answer, order: &[u32], tried: u64) -> bool {
-    match answer {
-        Answer::Found(ending, total) => total == tried && ending.as_slice() == order,
-        _ => false,
-    }
+    matches!(answer, Answer::Found(ending, total) if total == tried && ending.as_slice() == order)
 }
 
 fn is_none(answer: Answer, tried: u64) -> bool {
-    match answer {
-        Answer::NoSurvivor(total) => total == tried,
-        _ => false,
-    }
+    matches!(answer, Answer::NoSurvivor(total) if total == tried)
 }
 
 #[test]

@@ -2,12 +2,12 @@
 // A case is a line CANDIDATES rows|groups TEXT, where \n in the text stands for the end of a line.
 #![tactic(auto)]
 
-use anyhow::anyhow;
+use anyhow::Context;
 use ballot::source::BallotSource;
 use ballot::walk::groups_in;
 use ballot_line::TextForm;
 use ballot_text::{BallotText, Fault, GroupsText, RowsText};
-use std::io;
+use std::fmt;
 use std::str::from_utf8;
 
 const USAGE: &str = "each line of standard input is CANDIDATES rows|groups TEXT";
@@ -19,84 +19,75 @@ struct Case<'c> {
     text: &'c str,
 }
 
-fn form_named(name: &str) -> Option<TextForm> {
-    match name {
-        "rows" => Some(TextForm::Rows),
-        "groups" => Some(TextForm::Groups),
-        _ => None,
+// What a text holds that was opened; of rows, the first identifier and the byte where it begins.
+#[derive(Clone, Copy)]
+struct Contents<'t> {
+    groups: u32,
+    ballots: u32,
+    first: Option<(&'t [u8], usize)>,
+}
+
+impl<'t> Contents<'t> {
+    fn of<S: BallotSource>(source: &mut S) -> Contents<'t> {
+        Contents {
+            groups: groups_in(source),
+            ballots: source.ballots(),
+            first: None,
+        }
     }
 }
 
+impl fmt::Display for Contents<'_> {
+    fn fmt<W: fmt::Write>(&self, f: &mut fmt::Formatter<W>) -> fmt::Result {
+        write!(f, "{} groups, {} ballots", self.groups, self.ballots)?;
+        if let Some((identifier, at)) = self.first {
+            let name = from_utf8(identifier).map_err(|_| fmt::Error)?;
+            write!(f, ", first {name} at {at}")?;
+        }
+        Ok(())
+    }
+}
+
+// The case that a line writes. An `Option`, since the usage answers whatever is wrong with it.
 fn case_in(line: &str) -> Option<Case<'_>> {
     let (number, rest) = line.split_once(' ')?;
     let (name, text) = rest.split_once(' ').unwrap_or((rest, ""));
-    let candidates = number.parse::<u32>().ok()?;
-    let form = form_named(name)?;
     Some(Case {
-        candidates,
-        form,
+        candidates: number.parse().ok()?,
+        form: name.parse().ok()?,
         text,
     })
 }
 
-fn print_source<S: BallotSource>(rt: &HostRuntime, source: &mut S) -> io::Result<()> {
-    let groups = groups_in(source);
-    let ballots = source.ballots();
-    print!(rt; "opens: {groups} groups, {ballots} ballots")
-}
-
-fn print_first_row(rt: &HostRuntime, source: &RowsText<'_, '_>) -> anyhow::Result<()> {
-    if let Ok((identifier, at)) = source.identifier(1) {
-        let name = from_utf8(identifier)?;
-        print!(rt; ", first {name} at {at}")?;
-    }
-    Ok(())
-}
-
-fn print_fault(rt: &HostRuntime, fault: &Fault) -> io::Result<()> {
-    let number = fault.cause.number();
-    let line = fault.line;
-    let byte = fault.byte;
-    print!(rt; "refused={number} line={line} byte={byte}")
-}
-
-fn print_opening(
-    rt: &HostRuntime,
-    candidates: u32,
-    form: TextForm,
-    text: &BallotText<'_>,
-) -> anyhow::Result<()> {
+// The form is what the case says, and of a source it is a part of the type.
+fn open<'t>(candidates: u32, form: TextForm, text: &BallotText<'t>) -> Result<Contents<'t>, Fault> {
     match form {
-        TextForm::Rows => match RowsText::open(candidates, text) {
-            Ok(mut source) => {
-                print_source(rt, &mut source)?;
-                print_first_row(rt, &source)?;
-            }
-            Err(fault) => print_fault(rt, &fault)?,
-        },
-        TextForm::Groups => match GroupsText::open(candidates, text) {
-            Ok(mut source) => print_source(rt, &mut source)?,
-            Err(fault) => print_fault(rt, &fault)?,
-        },
+        TextForm::Rows => {
+            let mut rows = RowsText::open(candidates, text)?;
+            Ok(Contents {
+                first: rows.identifier(1).ok(),
+                ..Contents::of(&mut rows)
+            })
+        }
+        TextForm::Groups => Ok(Contents::of(&mut GroupsText::open(candidates, text)?)),
     }
-    Ok(())
-}
-
-fn run(rt: &HostRuntime) -> anyhow::Result<()> {
-    for line in rt.lines(rt.alloc()) {
-        let line = line?;
-        let Some(case) = case_in(line.as_str()) else {
-            return Err(anyhow!("{USAGE}"));
-        };
-        let bytes = case.text.replace(rt.alloc(), "\\n", "\n")?;
-        let text = BallotText::new(bytes.as_bytes());
-        print!(rt; "{line} -> ")?;
-        print_opening(rt, case.candidates, case.form, &text)?;
-        println!(rt; "")?;
-    }
-    Ok(())
 }
 
 fn main(rt: HostRuntime) -> anyhow::Result<()> {
-    run(&rt)
+    for line in rt.lines(rt.alloc()) {
+        let line = line?;
+        let case = case_in(line.as_str()).context(USAGE)?;
+        let bytes = case.text.replace(rt.alloc(), "\\n", "\n")?;
+        let text = BallotText::new(bytes.as_bytes());
+        match open(case.candidates, case.form, &text) {
+            Ok(contents) => println!(rt; "{line} -> opens: {contents}")?,
+            Err(fault) => println!(rt;
+                "{line} -> refused={} line={} byte={}",
+                fault.cause.number(),
+                fault.line,
+                fault.byte
+            )?,
+        }
+    }
+    Ok(())
 }

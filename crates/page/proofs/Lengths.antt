@@ -9,7 +9,6 @@ use Rattle.irv.specs.Assertions.{nen, Cause, foreign_in, fraction_fits, judged, 
 use Rattle.irv.specs.Ballots.{Slate, member}
 use Rattle.irv.specs.Sets.{Set, has}
 use Rattle.irv.proofs.Assertions.{none_of, maj_judged, members_are}
-use Rattle.ballot.specs.Sets.{members}
 use Rattle.assertion.specs.Kinds.{written_kind, top_kind, half_kind}
 use Rattle.assertion.specs.Sums.{most_value}
 use Rattle.assertion.specs.declared.assertion.Assertion.{Assertion}
@@ -73,7 +72,7 @@ short_assertion s few (Neb a) fits =
     let vs = a.winner ∷ a.loser ∷ [] in
     let written = short_numbers 44 vs (candidates_small s few vs (none_of (foreign_in s vs) _ fits).0) in omega arith
 short_assertion s few (Nen a) fits =
-    let R = members a.standing in
+    let R = a.standing in
     let all = a.winner ∷ a.loser ∷ members_of R in
     short_nen a.winner a.loser (members_of R) (candidates_small s few all (none_of (foreign_in s all) _ fits).0) (subst (λ ms. length ms ≤ 16) (sym (members_are R)) (few_members R 1 16))
 short_assertion s few (Majority a) fits =

@@ -1,3 +1,4 @@
+pub mod Dividing
 pub mod Putting
 pub mod Listing
 pub mod Lengths

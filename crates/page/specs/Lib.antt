@@ -1,4 +1,3 @@
 pub mod Sinks
 pub mod Counting
 pub mod Laying
-pub mod Numbers

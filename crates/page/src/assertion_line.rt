@@ -1,48 +1,43 @@
 // The line of an assertion.
-ghost use Rattle.irv.specs.AssertionForms.{numbers_by, assertion_bytes};
+ghost use Rattle.std.specs.Prelude.{ℕ, List};
+ghost use Rattle.std.specs.Iterator.{IsFinite, Drains};
+ghost use Rattle.irv.specs.AssertionForms.{comma, numbers_by, assertion_bytes};
 ghost use Rattle.irv.specs.Assertions.{members_of};
-ghost use Rattle.ballot.specs.Sets.{members};
 ghost use Rattle.assertion.specs.Kinds.{written_kind};
 ghost use Rattle.audit.specs.Pages.{assertion_line};
-ghost use Rattle.page.specs.Numbers.{further};
 
 use crate::sink::Sink;
 use crate::writing::{write_bytes, write_number};
 use assertion::assertion::Assertion;
 use ballot::candidate_set::CandidateSet;
 
-// Puts a number, behind the byte `mark` where it is not the first.
-fn write_further<S: Sink>(sink: &mut S, mark: u8, is_first: bool, number: u32)
-    ensures { S.took sink.old (further mark is_first number) sink.new }
+// Puts the numbers, with the byte `mark` between them.
+fn write_joined<S: Sink, I: Iterator<Item = u32> + Drop>(sink: &mut S, mark: u8, mut numbers: I)
+    requires can { I.can_next numbers }
+    requires ends { IsFinite (I.remaining numbers) }
+    ensures { (vs : List ℕ) × Drains I.next_gives numbers vs × S.took sink.old (numbers_by mark vs) sink.new }
 {
-    if !is_first {
-        sink.put(mark);
+    if let Some(first) = numbers.next() {
+        write_number(sink, u64::from(first));
+        for number in numbers {
+            sink.put(mark);
+            write_number(sink, u64::from(number));
+        }
     }
-    write_number(sink, u64::from(number));
 }
 
 // Puts the numbers with commas between them.
 fn write_numbers<S: Sink>(sink: &mut S, numbers: &[u32])
-    ensures { S.took sink.old (numbers_by 44 numbers.now) sink.new }
+    ensures { S.took sink.old (numbers_by comma numbers.now) sink.new }
 {
-    let mut is_first = true;
-    for number in numbers {
-        write_further(sink, b',', is_first, *number);
-        is_first = false;
-    }
+    write_joined(sink, b',', numbers.iter().copied());
 }
 
 // Puts the members of a set, ascending, with plus signs between them.
 fn write_members<S: Sink>(sink: &mut S, set: &CandidateSet)
-    ensures { S.took sink.old (numbers_by 43 (members_of (members set.now))) sink.new }
+    ensures { S.took sink.old (numbers_by 43 (members_of set.now)) sink.new }
 {
-    let mut is_first = true;
-    for candidate in 1..17 {
-        if set.has(candidate) {
-            write_further(sink, b'+', is_first, candidate);
-            is_first = false;
-        }
-    }
+    write_joined(sink, b'+', (1..=16).filter(|c| set.has(*c)));
 }
 
 // Puts an assertion as it is written.

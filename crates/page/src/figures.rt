@@ -7,11 +7,8 @@ ghost use Rattle.audit.specs.Pages.{share as share_of_margin, sample as sample_b
 pub fn share(half: u32, margin: u64, ballots: u32) -> u128
     ensures { result ≡ share_of_margin half margin ballots }
 {
-    let worth = u64::from(half) * u64::from(ballots);
-    if worth == 0 {
-        return 0;
-    }
-    10000 * u128::from(margin) / u128::from(worth)
+    let worth = u128::from(half) * u128::from(ballots);
+    (10000 * u128::from(margin)).checked_div(worth).unwrap_or(0)
 }
 
 // How many ballots to pull for a margin, rounded up, the factor being in thousandths; never more than there are, and
@@ -22,11 +19,8 @@ pub fn sample(factor: u32, top: u32, margin: u64, ballots: u32) -> u32
     if margin == 0 {
         return 0;
     }
-    let divisor = 2000 * u128::from(margin);
-    let needed = u128::from(factor) * u128::from(top) * u128::from(ballots) + (divisor - 1);
-    let pulled = needed / divisor;
-    if pulled < u128::from(ballots) {
-        return pulled as u32;
-    }
-    ballots
+    let product = u128::from(factor) * u128::from(top) * u128::from(ballots);
+    let pulled = product.div_ceil(2000 * u128::from(margin));
+    // By `as`, since it is no more than `ballots`, and `try_from` would have to be unwrapped.
+    pulled.min(u128::from(ballots)) as u32
 }

@@ -2,6 +2,7 @@
 ghost use Rattle.std.specs.Prelude.{ℕ, List, [], ◌∷◌};
 ghost use Rattle.page.specs.Sinks.{Joins};
 
+// A trait of its own, since every writer of the library may fail, and a sink may not.
 pub trait Sink {
     // What becomes of a sink when these bytes are put into it, one after the other.
     ghost took: { Self → List ℕ → Self → Type 0 };

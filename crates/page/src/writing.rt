@@ -13,13 +13,14 @@ pub fn write_bytes<S: Sink>(sink: &mut S, bytes: &[u8])
     }
 }
 
-// Puts the digits of a number, from the front.
+// Puts the digits of a number, from the front. By hand, since the library's printing may fail, and no clause excludes it.
 pub fn write_number<S: Sink>(sink: &mut S, number: u64)
     ensures { S.took sink.old (decimal number) sink.new }
 {
     if number >= 10 {
         write_number(sink, number / 10);
     }
+    // By `as`, since a remainder by 10 is below 10.
     sink.put(b'0' + (number % 10) as u8);
 }
 

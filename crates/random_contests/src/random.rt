@@ -1,5 +1,11 @@
-// Numbers from a fixed seed.
+// Contests and their ballots from a fixed seed.
 ghost use Rattle.std.specs.Prelude.{◌≤◌};
+
+use anyhow::{Context, Result};
+use ballot::contest::Contest;
+use ballot::group::Group;
+use ballot::ranking::Ranking;
+use std::alloc::Global;
 
 // A linear congruential generator, of which the high bits are used.
 #[derive(Drop)]
@@ -12,17 +18,50 @@ impl Random {
         Random { state: seed }
     }
 
-    // A number below `limit`, or 0 where that is 0.
-    pub fn below(&mut self, limit: u32) -> u32
-        ensures { result ≤ limit }
+    // A number from `least` to `most`.
+    fn between(&mut self, least: u32, most: u32) -> u32
+        requires { least ≤ most }
+        ensures least { least ≤ result }
+        ensures most { result ≤ most }
     {
         self.state = self
             .state
             .wrapping_mul(6364136223846793005)
             .wrapping_add(1442695040888963407);
-        if limit == 0 {
-            return 0;
+        let choices = u64::from(most - least) + 1;
+        least + ((self.state >> 33) % choices) as u32
+    }
+
+    // A contest of 2 to 5 candidates.
+    pub fn contest(&mut self) -> Contest {
+        Contest::new(self.between(2, 5)).unwrap()
+    }
+
+    // A ranking of some of the contest's candidates, perhaps of none.
+    fn ranking(&mut self, heap: Global, contest: Contest) -> Result<Ranking> {
+        let mut ranked = Vec::new(heap);
+        for _ in 0..self.between(0, contest.candidates()) {
+            let candidate = self.between(1, contest.candidates());
+            if !ranked.contains(&candidate) {
+                ranked.push(candidate)?;
+            }
         }
-        ((self.state >> 33) % limit as u64) as u32
+        Ranking::new(contest, ranked.as_slice())
+            .ok()
+            .context("a ranking was refused")
+    }
+
+    fn group(&mut self, heap: Global, contest: Contest) -> Result<Group> {
+        let ranking = self.ranking(heap, contest)?;
+        Ok(Group::new(ranking, self.between(1, 4)).unwrap())
+    }
+
+    // At most 6 groups of ballots.
+    pub fn groups(&mut self, heap: Global, contest: Contest) -> Result<Vec<Group>> {
+        let mut groups = Vec::new(heap);
+        for _ in 0..self.between(0, 6) {
+            groups.push(self.group(heap, contest)?)?;
+        }
+        Ok(groups)
     }
 }

@@ -1,8 +1,8 @@
--- Where the walk below an ending leads, at equal rules, and why where the whole walk leads is the answer of a search.
+-- Why where the whole walk leads is the answer of a search.
 use Rattle.std.proofs.Common.{◌≡◌, ℕ, ◌-◌, List, [], length, Option, sym, refl, ap, ◌∙◌, subst, arith}
 use Rattle.irv.specs.Ballots.{Slate}
 use Rattle.irv.specs.Endings.{Ruling}
-use Rattle.irv.specs.Walks.{Run, going, walk, is_survivor, run, run_below}
+use Rattle.irv.specs.Walks.{going, walk, is_survivor, run, run_below}
 use Rattle.irv.proofs.Counted.{Ends, ends}
 use Rattle.irv.proofs.Searching.{first_found, endings_tried, finds_first, tries_these}
 use Rattle.irv.proofs.Walk.{all_endings}
@@ -10,15 +10,6 @@ use Rattle.search.specs.Rules.{SoundRule}
 use Rattle.search.specs.Searches.{run_of, Tells, Searched}
 use Rattle.search.specs.declared.answer.Answer.{Answer}
 use Rattle.search.specs.declared.answer.Answer.TheVariants.{Stopped, Found, NoSurvivor}
-
--- equal rules and endings lead to the same
-pub led : (r q : Ruling) (s p : Slate) (e f : List ℕ) (w limit t k : ℕ) (u : Run) → r ≡ q → s ≡ p → e ≡ f → t ≡ k → u ≡ run_below r w s.candidates limit e t → u ≡ run_below q w p.candidates limit f k
-led r q s p e f w limit t k u rules contests endings counts leads =
-    leads
-    ∙ ap (λ r. run_below r w s.candidates limit e t) rules
-    ∙ ap (λ s. run_below q w s.candidates limit e t) contests
-    ∙ ap (λ e. run_below q w p.candidates limit e t) endings
-    ∙ ap (λ t. run_below q w p.candidates limit f t) counts
 
 tells : (limit : ℕ) (found : Option (List ℕ)) (k : ℕ) (a : Answer) → Ends limit found k (run_of a) → Tells limit found k a
 tells limit found k Stopped h = h

@@ -8,4 +8,3 @@ pub mod searching;
 pub mod step;
 #[cfg(test)]
 mod tests;
-mod trial;

@@ -2,8 +2,7 @@
 ghost use Rattle.std.specs.Prelude.{◌≡◌};
 ghost use Rattle.irv.specs.Ballots.{Slate, slate};
 ghost use Rattle.irv.specs.Endings.{Ruling};
-ghost use Rattle.ballot.specs.Sets.{members};
-ghost use Rattle.search.specs.Rules.{SoundRule, Chains};
+ghost use Rattle.search.specs.Rules.{SoundRule, Chains, SameRule};
 
 use ballot::candidate_set::CandidateSet;
 
@@ -26,8 +25,6 @@ pub trait Rule {
 
     // Whether it is ruled out that `out` goes out of `standing`; where that is no step of the contest, it is not.
     fn rules_out(&mut self, standing: CandidateSet, out: u32) -> bool
-        ensures value { result ≡ ruling self.old (members standing) out }
-        ensures same_contest { contest self.new ≡ contest self.old }
-        ensures same_ruling { ruling self.new ≡ ruling self.old }
-        ensures same_rest { kept self.old self.new };
+        ensures value { result ≡ ruling self.old standing out }
+        ensures same { SameRule contest ruling kept self.old self.new };
 }

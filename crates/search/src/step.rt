@@ -1,7 +1,6 @@
 // Which questions to a rule are about a step.
 ghost use Rattle.std.specs.Prelude.{◌≡◌};
 ghost use Rattle.irv.specs.Recounts.{is_step};
-ghost use Rattle.ballot.specs.Sets.{members};
 ghost use Rattle.ballot.specs.Values.{contest_slate};
 
 use ballot::candidate_set::CandidateSet;
@@ -10,15 +9,9 @@ use ballot::contest::Contest;
 // Whether `out` can go out of `standing` in a step of the contest: candidates of the contest alone stand, `out` among
 // them and not alone.
 pub fn is_step(contest: Contest, standing: CandidateSet, out: u32) -> bool
-    ensures { result ≡ is_step (contest_slate contest) (members standing) out }
+    ensures { result ≡ is_step (contest_slate contest) standing out }
 {
-    if !standing.within(&contest.everyone()) {
-        return false;
-    }
-    if !standing.has(out) {
-        return false;
-    }
     let mut alone = CandidateSet::new();
     alone.insert(out);
-    standing != alone
+    standing.within(&contest.everyone()) && standing.has(out) && standing != alone
 }

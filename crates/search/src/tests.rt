@@ -1,6 +1,5 @@
 // Searches over two rules of three candidates, of whom 1 won.
 ghost use Rattle.std.specs.Prelude.{◌≡◌};
-ghost use Rattle.ballot.specs.Sets.{members};
 ghost use Rattle.search.specs.Rules.{nothing_lent};
 ghost use Rattle.search.specs.Samples.{three, nothing_out, nothing_out_sound, pair, trio, one_stays, one_stays_sound};
 
@@ -35,7 +34,7 @@ impl Rule for NothingOut {
 }
 
 fn one_and_two() -> CandidateSet
-    ensures { members result ≡ pair }
+    ensures { result ≡ pair }
 {
     let mut set = CandidateSet::new();
     set.insert(1);
@@ -44,14 +43,15 @@ fn one_and_two() -> CandidateSet
 }
 
 fn all_three() -> CandidateSet
-    ensures { members result ≡ trio }
+    ensures { result ≡ trio }
 {
     let mut set = one_and_two();
     set.insert(3);
     set
 }
 
-// It is ruled out that 1 goes out of a set that holds 2.
+// It is ruled out that 1 goes out of a set that holds 2. A second type and not a value of the first, since what a rule rules
+// out is a ghost member of its type.
 #[derive(Drop)]
 struct OneStays {}
 
@@ -71,35 +71,17 @@ impl Rule for OneStays {
     }
 
     fn rules_out(&mut self, standing: CandidateSet, out: u32) -> bool {
-        if out != 1 {
-            return false;
-        }
-        if standing == one_and_two() {
-            return true;
-        }
-        standing == all_three()
+        out == 1 && (standing == one_and_two() || standing == all_three())
     }
 }
 
 // Whether the answer is this order, first out first, after so many endings.
 fn is_found(answer: Result<Answer, Refusal>, order: &[u32], tried: u64) -> bool {
-    let Ok(found) = answer else {
-        return false;
-    };
-    match found {
-        Answer::Found(ending, total) => total == tried && ending.as_slice() == order,
-        _ => false,
-    }
+    matches!(answer, Ok(Answer::Found(ending, total)) if total == tried && ending.as_slice() == order)
 }
 
 fn is_stopped(answer: Result<Answer, Refusal>) -> bool {
-    let Ok(found) = answer else {
-        return false;
-    };
-    match found {
-        Answer::Stopped => true,
-        _ => false,
-    }
+    matches!(answer, Ok(Answer::Stopped))
 }
 
 #[test]

@@ -2,7 +2,6 @@
 ghost use Rattle.std.specs.Prelude.{◌≡◌, ℕ, MatchResult};
 ghost use Rattle.irv.specs.Ballots.{slate, member, Proper};
 ghost use Rattle.irv.specs.Sets.{has};
-ghost use Rattle.ballot.specs.Sets.{members};
 ghost use Rattle.ballot.specs.Values.{contest_slate, FirstUnfit};
 ghost use Rattle.ballot.specs.declared.refusal.Refusal.TheVariants.{CandidatesOutOfRange};
 
@@ -14,13 +13,10 @@ impl Contest {
     pub fn new(candidates: u32) -> Result<Contest, Refusal>
         ensures { MatchResult result (λ k. Proper (slate candidates) × (contest_slate k ≡ slate candidates)) (λ e. (Proper (slate candidates) → ⊥) × (e ≡ CandidatesOutOfRange)) }
     {
-        if candidates < 2 {
-            return Err(Refusal::CandidatesOutOfRange);
+        match candidates {
+            2..=16 => Ok(Contest { candidates }),
+            _ => Err(Refusal::CandidatesOutOfRange),
         }
-        if candidates > 16 {
-            return Err(Refusal::CandidatesOutOfRange);
-        }
-        Ok(Contest { candidates })
     }
 
     pub fn candidates(&self) -> u32
@@ -38,11 +34,10 @@ impl Contest {
 
     // Every candidate of the contest.
     pub fn everyone(&self) -> CandidateSet
-        ensures { (c : ℕ) → has (members result) c ≡ member (contest_slate self.now) c }
+        ensures { (c : ℕ) → has result c ≡ member (contest_slate self.now) c }
     {
         let mut all = CandidateSet::new();
-        let last = self.candidates;
-        for candidate in 1..last + 1 {
+        for candidate in 1..=self.candidates {
             all.insert(candidate);
         }
         all
@@ -52,6 +47,7 @@ impl Contest {
     pub fn first_unfit(&self, candidates: &[u32]) -> Option<usize>
         ensures { FirstUnfit (contest_slate self.now) candidates.now result }
     {
+        // A loop, since each number is held against those before it.
         let mut seen = CandidateSet::new();
         for (i, candidate) in candidates.iter().enumerate() {
             if !self.is_candidate(*candidate) {

@@ -10,14 +10,13 @@ use crate::contest::Contest;
 use crate::group::Group;
 use crate::lent::LentGroups;
 use crate::refusal::Refusal;
-use crate::source::BallotSource;
-
-const MOST_BALLOTS: u32 = 100_000_000;
+use crate::source::{BallotSource, MOST_BALLOTS};
 
 // How many ballots the groups have together, or a refusal where that is too many.
 fn sum_of(groups: &[Group]) -> Result<u32, Refusal>
     ensures { MatchResult result (λ n. (n ≡ ballots (map group_value groups.now)) × (n ≤ most_ballots)) (λ e. (most_ballots < ballots (map group_value groups.now)) × (e ≡ CountOutOfRange)) }
 {
+    // A loop, since it ends where the sum would be more than a source may have.
     let mut sum = 0;
     for group in groups {
         if group.count() > MOST_BALLOTS - sum {
@@ -32,12 +31,7 @@ fn sum_of(groups: &[Group]) -> Result<u32, Refusal>
 fn of_contest(contest: Contest, groups: &[Group]) -> bool
     ensures { result ≡ all_of_contest contest.candidates groups.now }
 {
-    for group in groups {
-        if group.ranking().candidates() != contest.candidates() {
-            return false;
-        }
-    }
-    true
+    groups.iter().all(|group| group.ranking().candidates() == contest.candidates())
 }
 
 impl<'g> LentGroups<'g> {
@@ -80,11 +74,8 @@ impl<'g> BallotSource for LentGroups<'g> {
     }
 
     fn next(&mut self) -> Option<Group> {
-        let at = self.place;
-        if at >= self.groups.len() {
-            return None;
-        }
-        self.place = at + 1;
-        Some(self.groups[at])
+        let group = self.groups.get(self.place)?;
+        self.place += 1;
+        Some(*group)
     }
 }

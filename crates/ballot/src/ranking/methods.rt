@@ -1,7 +1,6 @@
 // Making a ranking, and reading it.
 ghost use Rattle.std.specs.Prelude.{◌≡◌, true, false, MatchResult};
 ghost use Rattle.irv.specs.Ballots.{ranks, owner};
-ghost use Rattle.ballot.specs.Sets.{members};
 ghost use Rattle.ballot.specs.Values.{contest_slate, ranking_slate, ranked};
 ghost use Rattle.irv.specs.Ballots.{slate};
 ghost use Rattle.ballot.specs.declared.refusal.Refusal.TheVariants.{CandidateForeignOrRepeated};
@@ -10,6 +9,7 @@ use crate::candidate_set::CandidateSet;
 use crate::contest::Contest;
 use crate::ranking::Ranking;
 use crate::refusal::Refusal;
+use fixed_list::FixedList;
 
 impl Ranking {
     // The ranking of these candidates, best first, or a refusal where one is foreign or comes again.
@@ -19,14 +19,13 @@ impl Ranking {
         if contest.first_unfit(candidates).is_some() {
             return Err(Refusal::CandidateForeignOrRepeated);
         }
-        let mut places = [0; 16];
-        for (i, candidate) in candidates.iter().enumerate() {
-            places[i] = *candidate;
+        let mut list = FixedList::new();
+        for candidate in candidates {
+            list.push(*candidate).unwrap();
         }
         Ok(Ranking {
             candidates: contest.candidates(),
-            len: candidates.len(),
-            places,
+            list,
         })
     }
 
@@ -41,19 +40,16 @@ impl Ranking {
     pub fn as_slice(&self) -> &[u32]
         ensures { result.now ≡ ranked self.now }
     {
-        let len = self.len;
-        &self.places[0..len]
+        self.list.as_slice()
     }
 
     // Whom the ballot belongs to while `standing` stands, if anybody.
     pub fn first_in(&self, standing: &CandidateSet) -> Option<u32>
-        ensures { result ≡ owner (members standing.now) (ranked self.now) }
+        ensures { result ≡ owner standing.now (ranked self.now) }
     {
-        for candidate in self.as_slice() {
-            if standing.has(*candidate) {
-                return Some(*candidate);
-            }
-        }
-        None
+        self.as_slice()
+            .iter()
+            .find(|candidate| standing.has(**candidate))
+            .copied()
     }
 }

@@ -1,8 +1,9 @@
 // The fields of one line of an opened text.
 ghost use Rattle.std.specs.Prelude.{MatchResult};
-ghost use Rattle.ballot_text.specs.Fields.{FieldsOfLine, NoSuchLine};
+ghost use Rattle.ballot_text.specs.Fields.{FieldsOfLine, IdentifierOfRow, NoSuchLine};
 
-use crate::lines::BallotLines;
+use crate::form::LineForm;
+use crate::lines::{BallotLines, RowsText};
 use ballot::refusal::Refusal;
 use ballot_line::{Field, read_line};
 
@@ -14,7 +15,7 @@ pub struct LineFields<'t> {
     pub at: usize,
 }
 
-impl<'a, 't> BallotLines<'a, 't> {
+impl<'a, 't, F: LineForm> BallotLines<'a, 't, F> {
     // The fields of a line, from 1.
     pub fn fields(&self, line: u64) -> Result<LineFields<'t>, Refusal>
         ensures { MatchResult result (λ x. FieldsOfLine self.now line x) (λ e. NoSuchLine self.now line e) }
@@ -24,12 +25,10 @@ impl<'a, 't> BallotLines<'a, 't> {
         }
         let text = self.text.bytes();
         let mut passed = 0;
+        // An index, since the answer says where the line begins.
         let mut at = 0;
         while at < text.len() {
-            let read = match read_line(self.form, &text[at..]) {
-                Ok(read) => read,
-                Err(_) => unreachable(),
-            };
+            let read = read_line(F::form(), &text[at..]).unwrap();
             passed += 1;
             if passed == line {
                 return Ok(LineFields {
@@ -41,5 +40,15 @@ impl<'a, 't> BallotLines<'a, 't> {
             at += read.length;
         }
         Err(Refusal::PlaceOutOfRange)
+    }
+}
+
+impl<'a, 't> RowsText<'a, 't> {
+    // The identifier of a row, from 1, and the byte of the text, from 0, where it begins.
+    pub fn identifier(&self, row: u64) -> Result<(&'t [u8], usize), Refusal>
+        ensures { MatchResult result (λ x. IdentifierOfRow self.now row x.0.now x.1) (λ e. NoSuchLine self.now row e) }
+    {
+        let fields = self.fields(row)?;
+        Ok((fields.first.bytes(), fields.at))
     }
 }

@@ -1,115 +1,90 @@
 // Opening the lines of a text, and handing out their groups.
-ghost use Rattle.std.specs.Prelude.{◌≡◌, MatchResult};
-ghost use Rattle.irv.specs.Ballots.{slate, ballots};
-ghost use Rattle.ballot.specs.Sources.{HandsOut};
+ghost use Rattle.std.specs.Prelude.{MatchResult};
 ghost use Rattle.ballot.specs.Values.{contest_slate};
-ghost use Rattle.ballot_line.specs.Lines.{form_of};
+ghost use Rattle.ballot_line.specs.Forms.{form_of};
 ghost use Rattle.ballot_text.specs.Openings.{ReadsAll, FaultyText, OpeningRefused};
-ghost use Rattle.ballot_text.specs.Sources.{line_groups, OpenedLines, SameText};
+ghost use Rattle.ballot_text.specs.Sources.{line_groups, lines_sound, OpenedText};
 ghost use Rattle.ballot_text.specs.Texts.{text_bytes};
 
 use crate::fault::Fault;
+use crate::form::LineForm;
 use crate::lines::BallotLines;
 use crate::text::BallotText;
 use ballot::contest::Contest;
 use ballot::group::Group;
+use ballot::source::BallotSource;
 use ballot_line::{TextForm, take_group};
+use std::marker::PhantomData;
 
 // How many ballots the lines of the text have together, or the first faulty line.
-fn read_all(form: TextForm, contest: Contest, text: &[u8]) -> Result<u32, Fault>
-    ensures { MatchResult result (λ sum. ReadsAll (form_of form) (contest_slate contest) text.now sum) (λ e. FaultyText (form_of form) (contest_slate contest) text.now e) }
+fn read_all(form: TextForm, contest: Contest, text: &BallotText<'_>) -> Result<u32, Fault>
+    ensures { MatchResult result (λ sum. ReadsAll (form_of form) (contest_slate contest) (text_bytes text.now) sum) (λ e. FaultyText (form_of form) (contest_slate contest) (text_bytes text.now) e) }
 {
+    // A loop with counts beside it, since a line is judged by the ballots before it, and its fault names its number.
     let mut sum = 0;
     let mut line = 1;
-    let mut at = 0;
-    while at < text.len() {
-        match take_group(form, contest, sum, &text[at..]) {
-            Ok(read) => {
-                sum += read.group.count();
-                line += 1;
-                at += read.length;
-            }
-            Err(fault) => {
-                return Err(Fault {
-                    cause: fault.cause,
-                    line,
-                    byte: fault.byte,
-                });
-            }
-        }
+    let mut left = text.bytes();
+    while !left.is_empty() {
+        let read = take_group(form, contest, sum, left).map_err(|fault| Fault::on_line(
+            line, fault,
+        ))?;
+        sum += read.group.count();
+        line += 1;
+        left = &left[read.length..];
     }
     Ok(sum)
 }
 
-impl<'a, 't> BallotLines<'a, 't> {
-    // The text as a source for a contest of so many candidates, its place at the start.
-    pub fn open(
-        form: TextForm,
-        candidates: u32,
-        text: &'a BallotText<'t>,
-    ) -> Result<BallotLines<'a, 't>, Fault>
-        ensures { MatchResult result (λ s. OpenedLines form candidates (text_bytes text.now) s) (λ e. OpeningRefused (form_of form) candidates (text_bytes text.now) e) }
+impl<'a, 't, F: LineForm> BallotLines<'a, 't, F> {
+    // The text as a source for a contest of so many candidates, its place at the start; or why it is refused:
+    // the number of candidates first, then the first faulty line.
+    pub fn open(candidates: u32, text: &'a BallotText<'t>) -> Result<BallotLines<'a, 't, F>, Fault>
+        ensures { MatchResult result (λ s. OpenedText candidates (text_bytes text.now) s) (λ e. OpeningRefused F.form candidates (text_bytes text.now) e) }
     {
-        let contest = match Contest::new(candidates) {
-            Ok(contest) => contest,
-            Err(cause) => {
-                return Err(Fault {
-                    cause,
-                    line: 0,
-                    byte: 0,
-                });
-            }
-        };
-        let ballots = read_all(form, contest, text.bytes())?;
+        let contest = Contest::new(candidates)?;
+        let ballots = read_all(F::form(), contest, text)?;
         Ok(BallotLines {
-            form,
             contest,
             text,
             ballots,
             at: 0,
             place: 0,
+            form: PhantomData,
         })
     }
+}
 
-    pub fn candidates(&self) -> u32
-        ensures { slate result ≡ contest_slate self.now.contest }
-    {
+impl<'a, 't, F: LineForm> BallotSource for BallotLines<'a, 't, F> {
+    ghost contest = { λ s. contest_slate s.contest };
+
+    ghost groups = { line_groups };
+
+    ghost place = { λ s. s.place };
+
+    ghost sound = { lines_sound };
+
+    fn candidates(&self) -> u32 {
         self.contest.candidates()
     }
 
-    // How many ballots there are in all lines.
-    pub fn ballots(&self) -> u32
-        ensures { result ≡ ballots (line_groups self.now) }
-    {
+    fn ballots(&self) -> u32 {
         self.ballots
     }
 
-    // Puts the place at the first line.
-    pub fn rewind(&mut self)
-        ensures same { SameText self.old self.new }
-        ensures start { self.new.place ≡ 0 }
-    {
+    fn rewind(&mut self) {
         self.at = 0;
         self.place = 0;
     }
 
-    // The group of the line at the place, which moves on by one; at the end nothing, and the place stays.
-    pub fn next(&mut self) -> Option<Group>
-        ensures same { SameText self.old self.new }
-        ensures cases { HandsOut (contest_slate self.old.contest) (line_groups self.old) self.old.place result self.new.place }
-    {
+    fn next(&mut self) -> Option<Group> {
         let at = self.at;
         let text = self.text.bytes();
         if at >= text.len() {
             return None;
         }
-        match take_group(self.form, self.contest, 0, &text[at..]) {
-            Ok(read) => {
-                self.at = at + read.length;
-                self.place += 1;
-                Some(read.group)
-            }
-            Err(_) => unreachable(),
-        }
+        let read = take_group(F::form(), self.contest, 0, &text[at..]).unwrap();
+        self.at = at + read.length;
+        self.place += 1;
+        Some(read.group)
     }
 }

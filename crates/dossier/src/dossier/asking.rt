@@ -16,7 +16,7 @@ impl Dossier {
     {
         let place = self.live_place(number)?;
         self.may_answer(StageQuestion::Margin)?;
-        let entered = self.records[place];
+        let entered = &self.records[place];
         Ok((entered.margin, entered.assertion.top()))
     }
 }

@@ -11,21 +11,18 @@ use audit::records::AssertionRecord;
 use ballot::refusal::Refusal;
 
 impl Dossier {
-    // The place of the live record with this number.
+    // The place of the live record with this number. Numbers and places turn into each other by `as`: a number is a u32 and
+    // a place a usize, between which every other conversion may fail.
     pub(crate) fn live_place(&self, number: u32) -> Result<usize, Refusal>
         ensures { LivePlace (state self.now) number result }
     {
-        if number < 1 {
+        let Some(place) = (number as usize).checked_sub(1) else {
             return Err(Refusal::NumberNotLive);
+        };
+        match self.records.get(place) {
+            Some(entered) if entered.live => Ok(place),
+            _ => Err(Refusal::NumberNotLive),
         }
-        let place = (number - 1) as usize;
-        if place >= self.records.len() {
-            return Err(Refusal::NumberNotLive);
-        }
-        if !self.records[place].live {
-            return Err(Refusal::NumberNotLive);
-        }
-        Ok(place)
     }
 
     // Gives the assertion the next number, from 1, and goes back to the plain stage. An assertion that does not fit the
@@ -33,9 +30,7 @@ impl Dossier {
     pub fn enter(&mut self, assertion: Assertion) -> Result<u32, Refusal>
         ensures { Answers (enters assertion) (state self.old) result (state self.new) }
     {
-        if let Some(cause) = assertion.judge(self.contest) {
-            return Err(cause.refusal());
-        }
+        assertion.judge(self.contest)?;
         let given = self.records.len();
         if given >= MOST_ENTERED {
             return Err(Refusal::DossierFull);

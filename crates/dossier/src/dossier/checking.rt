@@ -26,10 +26,7 @@ impl Dossier {
             contest: self.contest,
             records: self.records.as_slice(),
         };
-        match find_survivor(&mut rule, self.winner, limit) {
-            Ok(answer) => answer,
-            Err(_) => unreachable(),
-        }
+        find_survivor(&mut rule, self.winner, limit).unwrap()
     }
 
     // Whether the live assertions contradict each order that elects another than the winner, trying at most `limit`
@@ -38,20 +35,14 @@ impl Dossier {
         ensures answer { Answers (checks limit) (state self.old) (said result) (state self.new) }
         ensures laws { EveryHistory }
     {
-        if limit < 1 {
+        if !(1..=MOST_ENDINGS).contains(&limit) {
             return Err(Refusal::LimitOutOfRange);
         }
-        if limit > MOST_ENDINGS {
-            return Err(Refusal::LimitOutOfRange);
+        let answer = self.search(limit);
+        if let Answer::NoSurvivor(tried) = answer {
+            self.endings = tried;
+            self.go_on(StageEvent::Accepted);
         }
-        match self.search(limit) {
-            Answer::Stopped => Ok(Verdict::Stopped),
-            Answer::Found(order, tried) => Ok(Verdict::Rejected(order, tried)),
-            Answer::NoSurvivor(tried) => {
-                self.endings = tried;
-                self.go_on(StageEvent::Accepted);
-                Ok(Verdict::Accepted(tried))
-            }
-        }
+        Ok(Verdict::from(answer))
     }
 }

@@ -26,10 +26,7 @@ fn judged(candidates: u32, winner: u32, factor: u32) -> Result<Contest, Refusal>
     if !contest.is_candidate(winner) {
         return Err(Refusal::WinnerNotCandidate);
     }
-    if factor < 1 {
-        return Err(Refusal::FactorOutOfRange);
-    }
-    if factor > MOST_FACTOR {
+    if !(1..=MOST_FACTOR).contains(&factor) {
         return Err(Refusal::FactorOutOfRange);
     }
     Ok(contest)
@@ -46,14 +43,8 @@ impl Dossier {
     ) -> Result<Dossier, OpenError>
         ensures { MatchResult result (λ d. Opens (opening candidates winner factor) (state d)) (λ e. NotOpened (opening candidates winner factor) e) }
     {
-        let contest = match judged(candidates, winner, factor) {
-            Ok(contest) => contest,
-            Err(refusal) => return Err(OpenError::Refused(refusal)),
-        };
-        let records = match Vec::with_capacity(heap, MOST_ENTERED) {
-            Ok(records) => records,
-            Err(_) => return Err(OpenError::OutOfMemory),
-        };
+        let contest = judged(candidates, winner, factor)?;
+        let records = Vec::with_capacity(heap, MOST_ENTERED)?;
         Ok(Dossier {
             contest,
             winner,

@@ -1,9 +1,10 @@
 // The page of a dossier's plan.
-ghost use Rattle.std.specs.Prelude.{◌≡◌, ◌<◌, ◌≤◌, ◌++◌, map, length, drop, vec_len, unsigned_abs};
+ghost use Rattle.std.specs.Prelude.{◌≡◌, ◌≤◌, [], ◌∷◌, ◌++◌, map, length, drop, unsigned_abs};
 ghost use Rattle.std.specs.List.{flat_map};
+ghost use Rattle.assertion.specs.Sums.{most_value};
 ghost use Rattle.audit.specs.Entries.{lines_from};
 ghost use Rattle.audit.specs.Pages.{line_bytes, sample_of, largest};
-ghost use Rattle.dossier.specs.Dossiers.{lines_at, page_shown};
+ghost use Rattle.dossier.specs.Dossiers.{page_shown, pulled_for};
 
 use crate::dossier::Dossier;
 use assertion::assorter::Assorter;
@@ -15,27 +16,18 @@ use page::page_length::PageLength;
 use page::sink::Sink;
 use page::writing::number_line;
 
-// The size of the record's margin; on a page every margin is above 0, so that this is the margin.
-fn margin_size(entered: &AssertionRecord) -> u64
-    ensures { result ≡ unsigned_abs entered.now.margin }
-{
-    entered.margin.unsigned_abs()
-}
-
 impl Dossier {
-    // How many ballots to pull for the record at this place; none where it is not live.
-    fn sample_at(&self, place: usize) -> u32
-        requires { place < vec_len self.now.records }
-        ensures { result ≡ largest (map (sample_of self.now.factor self.now.ballots) (lines_at place self.now)) }
+    // How many ballots to pull for the record; none where it is not live.
+    fn sample_for(&self, entered: &AssertionRecord) -> u32
+        ensures { result ≡ pulled_for self.now.factor self.now.ballots entered.now }
     {
-        let entered = &self.records[place];
         if !entered.live {
             return 0;
         }
         sample(
             self.factor,
             entered.assertion.top(),
-            margin_size(entered),
+            entered.margin.unsigned_abs(),
             self.ballots,
         )
     }
@@ -44,26 +36,26 @@ impl Dossier {
     fn total(&self) -> u32
         ensures { result ≡ largest (map (sample_of self.now.factor self.now.ballots) (lines_from 1 self.now.records.items)) }
     {
-        let mut total: u32 = 0;
-        for place in 0..self.records.len() {
-            total = total.max(self.sample_at(place));
-        }
-        total
+        self.records
+            .iter()
+            .map(|entered| self.sample_for(entered))
+            .max()
+            .unwrap_or(0)
     }
 
-    // Writes the four lines of the record at this place, if it is live.
-    fn write_record<S: Sink>(&self, place: usize, sink: &mut S)
-        requires { place < vec_len self.now.records }
-        ensures { S.took sink.old (flat_map (line_bytes self.now.factor self.now.ballots) (lines_at place self.now)) sink.new }
+    // Writes the four lines of the record under its number, if it is live. On a page every margin is above 0, so that its
+    // size is the margin.
+    fn write_record<S: Sink>(&self, number: u32, entered: &AssertionRecord, sink: &mut S)
+        requires { unsigned_abs entered.now.margin ≤ most_value }
+        ensures { S.took sink.old (flat_map (line_bytes self.now.factor self.now.ballots) (lines_from number (entered.now ∷ []))) sink.new }
     {
-        let entered = &self.records[place];
         if !entered.live {
             return;
         }
-        let margin = margin_size(entered);
+        let margin = entered.margin.unsigned_abs();
         let part = share(entered.assertion.half(), margin, self.ballots) as u64;
         let pulled = sample(self.factor, entered.assertion.top(), margin, self.ballots);
-        assertion_line(sink, place as u32 + 1, &entered.assertion);
+        assertion_line(sink, number, &entered.assertion);
         number_line(sink, b"margin=", margin);
         number_line(sink, b"share=", part);
         number_line(sink, b"sample=", u64::from(pulled));
@@ -73,8 +65,8 @@ impl Dossier {
     fn write_records<S: Sink>(&self, sink: &mut S)
         ensures { S.took sink.old (flat_map (line_bytes self.now.factor self.now.ballots) (lines_from 1 self.now.records.items)) sink.new }
     {
-        for place in 0..self.records.len() {
-            self.write_record(place, sink);
+        for (place, entered) in self.records.iter().enumerate() {
+            self.write_record(place as u32 + 1, entered, sink);
         }
     }
 

@@ -14,10 +14,7 @@ use ballot::refusal::Refusal;
 fn fails(entered: &AssertionRecord) -> bool
     ensures { result ≡ (entered.now.live && not (int_lt (pos 0) entered.now.margin)) }
 {
-    if !entered.live {
-        return false;
-    }
-    entered.margin <= 0
+    entered.live && entered.margin <= 0
 }
 
 impl Dossier {
@@ -25,12 +22,8 @@ impl Dossier {
     fn first_failing(&self) -> Option<u32>
         ensures { result ≡ first_failing (lines_from 1 self.now.records.items) }
     {
-        for place in 0..self.records.len() {
-            if fails(&self.records[place]) {
-                return Some(place as u32 + 1);
-            }
-        }
-        None
+        let place = self.records.iter().position(fails)?;
+        Some(place as u32 + 1)
     }
 
     // Writes the page into the buffer and answers its length; bytes behind it stay. Refused without a check that accepted
@@ -45,6 +38,7 @@ impl Dossier {
         if let Some(number) = self.first_failing() {
             return Err(Refusal::AssertionDoesNotHold(number));
         }
+        // By `as` here and below, as between numbers and places: a usize has no other conversion that cannot fail.
         let needed = self.page_length();
         if needed > page.len() as u64 {
             return Err(Refusal::BufferTooShort(needed));

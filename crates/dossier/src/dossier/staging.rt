@@ -9,31 +9,27 @@ use audit::stage::Stage;
 use ballot::refusal::Refusal;
 
 impl Dossier {
-    // Goes on to the stage to which the event leads from this one.
+    // Goes on to the stage to which the event leads from this one. The stage and the event are matched together, so that
+    // every way between stages stands in one table.
     pub(crate) fn go_on(&mut self, event: StageEvent)
         ensures { state self.new ≡ at_stage (stage_after event self.old.stage) (state self.old) }
     {
         self.stage = match (self.stage, event) {
             (_, StageEvent::Entered) => Stage::Plain,
             (_, StageEvent::Withdrawn) => Stage::Plain,
-            (Stage::Plain, StageEvent::Accepted) => Stage::Checked,
-            (Stage::Checked, StageEvent::Accepted) => Stage::Checked,
-            (Stage::Tallied, StageEvent::Accepted) => Stage::Ready,
-            (Stage::Ready, StageEvent::Accepted) => Stage::Ready,
-            (Stage::Plain, StageEvent::Tallied) => Stage::Tallied,
-            (Stage::Checked, StageEvent::Tallied) => Stage::Ready,
-            (Stage::Tallied, StageEvent::Tallied) => Stage::Tallied,
-            (Stage::Ready, StageEvent::Tallied) => Stage::Ready,
+            (Stage::Plain | Stage::Checked, StageEvent::Accepted) => Stage::Checked,
+            (Stage::Tallied | Stage::Ready, StageEvent::Accepted) => Stage::Ready,
+            (Stage::Plain | Stage::Tallied, StageEvent::Tallied) => Stage::Tallied,
+            (Stage::Checked | Stage::Ready, StageEvent::Tallied) => Stage::Ready,
         };
     }
 
-    // Whether the marks of this stage suffice for the question; else why not.
+    // Whether the marks of this stage suffice for the question; else why not. In one table, as above.
     pub(crate) fn may_answer(&self, question: StageQuestion) -> Result<(), Refusal>
         ensures { result ≡ answered (lacking question self.now.stage) tt }
     {
         match (self.stage, question) {
-            (Stage::Plain, StageQuestion::Plan) => Err(Refusal::NotChecked),
-            (Stage::Tallied, StageQuestion::Plan) => Err(Refusal::NotChecked),
+            (Stage::Plain | Stage::Tallied, StageQuestion::Plan) => Err(Refusal::NotChecked),
             (Stage::Checked, _) => Err(Refusal::NotTallied),
             (Stage::Plain, StageQuestion::Margin) => Err(Refusal::NotTallied),
             (Stage::Tallied, StageQuestion::Margin) => Ok(()),

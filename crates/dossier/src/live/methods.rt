@@ -2,7 +2,6 @@
 ghost use Rattle.std.specs.Prelude.{◌≡◌, ◌&&◌};
 ghost use Rattle.irv.specs.Ballots.{slate};
 ghost use Rattle.irv.specs.Assertions.{rules_any};
-ghost use Rattle.ballot.specs.Sets.{members};
 ghost use Rattle.search.specs.Rules.{nothing_lent};
 ghost use Rattle.assertion.specs.Kinds.{rules_kind};
 ghost use Rattle.audit.specs.Entries.{lines_from, entries, rules_of_entries};
@@ -17,24 +16,18 @@ use search::step::is_step;
 
 // Whether the record is live and its assertion rules out that `out` goes out of `standing`.
 fn forbids(entered: &AssertionRecord, standing: CandidateSet, out: u32) -> bool
-    ensures { result ≡ (entered.now.live && rules_kind entered.now.assertion (members standing) out) }
+    ensures { result ≡ (entered.now.live && rules_kind entered.now.assertion standing out) }
 {
-    if !entered.live {
-        return false;
-    }
-    entered.assertion.rules_out(standing, out)
+    entered.live && entered.assertion.rules_out(standing, out)
 }
 
 // Whether some record does.
 fn any_forbids(records: &[AssertionRecord], standing: CandidateSet, out: u32) -> bool
-    ensures { result ≡ rules_any (rules_of_entries (entries (lines_from 1 records.now))) (members standing) out }
+    ensures { result ≡ rules_any (rules_of_entries (entries (lines_from 1 records.now))) standing out }
 {
-    for entered in records {
-        if forbids(entered, standing, out) {
-            return true;
-        }
-    }
-    false
+    records
+        .iter()
+        .any(|entered| forbids(entered, standing, out))
 }
 
 impl<'d> Rule for LiveAssertions<'d> {
@@ -53,9 +46,6 @@ impl<'d> Rule for LiveAssertions<'d> {
     }
 
     fn rules_out(&mut self, standing: CandidateSet, out: u32) -> bool {
-        if !is_step(self.contest, standing, out) {
-            return false;
-        }
-        any_forbids(self.records, standing, out)
+        is_step(self.contest, standing, out) && any_forbids(self.records, standing, out)
     }
 }

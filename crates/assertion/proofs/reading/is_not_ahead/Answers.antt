@@ -1,23 +1,11 @@
-use Rattle.std.proofs.Common.{sym, refl, ◌∙◌}
-use Rattle.std.proofs.lemmas.List.{at_drop_all}
-use Rattle.assertion.proofs.Judging.{behind, behind_at_loser, behind_at_winner, behind_past}
+use Rattle.std.proofs.Common.{rules, ◌∙◌}
+use Rattle.std.proofs.lemmas.Iterator.{YieldsList-from_slice}
+use Rattle.std.proofs.lemmas.Iterator.Search.{find_from_yields_List}
+use borrow.Author.Tests.{tests}
+use Rattle.assertion.proofs.Judging.{either_of, same_found, behind_found}
 use Rattle.assertion.proofs.reading.is_not_ahead.Goals as goal
-
-pub loop-candidate-init : goal.loop-candidate-init
-loop-candidate-init c = refl
-
-pub returns-then-candidate-loser : goal.returns-then-candidate-loser
-returns-then-candidate-loser c =
-    sym (c.loop-candidate.invariant ∙ behind_at_loser c.args.winner c.args.loser c.args.ranked.now c.loop-candidate.candidate-index c.loop-candidate-test.true c.if-candidate-loser.true)
-
-pub returns-then-candidate-winner : goal.returns-then-candidate-winner
-returns-then-candidate-winner c =
-    sym (c.loop-candidate.invariant ∙ behind_at_winner c.args.winner c.args.loser c.args.ranked.now c.loop-candidate.candidate-index c.loop-candidate-test.true c.if-candidate-loser.false c.if-candidate-winner.true)
-
-pub loop-candidate-preserved : goal.loop-candidate-preserved
-loop-candidate-preserved c =
-    c.loop-candidate.invariant ∙ behind_past c.args.winner c.args.loser c.args.ranked.now c.loop-candidate.candidate-index c.loop-candidate-test.true c.if-candidate-loser.false c.if-candidate-winner.false
 
 pub returns : goal.returns
 returns c =
-    sym (c.loop-candidate.invariant ∙ at_drop_all (behind c.args.winner c.args.loser) c.args.ranked.now c.loop-candidate.candidate-index c.loop-candidate-test.false)
+    let found = find_from_yields_List (either_of c.args.winner c.args.loser) _ _ c.find-first.result c.find-first.ensures.ran (YieldsList-from_slice c.args.ranked.now (cc)) (λ x b q k. search (rules, tests)) in
+    c.eq.ensures ∙ same_found c.find-first.result _ ∙ rw found (behind_found c.args.winner c.args.loser c.args.ranked.now)

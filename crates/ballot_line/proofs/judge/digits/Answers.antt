@@ -1,10 +1,7 @@
-use Rattle.std.proofs.Common.{arith}
-use Rattle.ballot_line.proofs.Widths.{one_digit, digit_more}
+use Rattle.std.proofs.Common.{◌*◌, ◌^◌, ◌<◌, ◌≤◌, sym, subst, arith}
+use Rattle.ballot_line.proofs.Widths.{digits_length}
 use Rattle.ballot_line.proofs.judge.digits.Goals as goal
 
-pub loop-left-preserved : goal.loop-left-preserved
-loop-left-preserved c =
-    (omega (arith, c.loop-left.invariant.0, digit_more c.loop-left.left c.loop-left-test.true c.loop-left.invariant.1.0), (omega (arith, c.loop-left.invariant.1.0), omega (arith, c.loop-left.invariant.1.1, c.loop-left-test.true)))
-
-pub returns : goal.returns
-returns c = omega (arith, c.loop-left.invariant.0, one_digit c.loop-left.left c.loop-left-test.false)
+pub returns-clause-value : goal.returns-clause-value
+returns-clause-value c =
+    sym (digits_length c.args.number c.ilog10.result (subst (λ m. 10 ^ c.ilog10.result ≤ m) c.max.ensures c.ilog10.ensures.power_le) (subst (λ m. m < 10 * 10 ^ c.ilog10.result) c.max.ensures c.ilog10.ensures.next_power_gt) (omega arith))

@@ -1,18 +1,22 @@
-use Rattle.std.proofs.Common.{◌≡◌, ◌-◌, length, take, subst, arith}
+use Rattle.std.proofs.Common.{rules, arith}
 use Rattle.std.proofs.lemmas.Result.{err_from_is_err_and}
-use Rattle.ballot.specs.Values.{contest_slate}
-use Rattle.ballot_line.specs.Faults.{WrongNumber}
-use Rattle.ballot_line.specs.Lines.{form_of, field_bytes}
-use Rattle.ballot_line.proofs.Judging.{wrong_candidate}
+use Rattle.ballot_line.specs.Lines.{ReadsLine}
+use Rattle.ballot_line.specs.Forms.{form_of}
+use Rattle.ballot_line.proofs.Judging.{not_within, wrong_count, wrong_candidate}
 use Rattle.ballot_line.proofs.judge.take_group.Goals as goal
+use Rattle.ballot_line.proofs.judge.take_group.Goals.{In_ok-line}
+
+-- the line that was read
+read : (c : In_ok-line) → ReadsLine (form_of c.args.form) c.args.left.now c.in_ok-line.line
+read c = let cases = c.map_err.ensures.cases in let told = c.read_line.ensures in let was = c.in_ok-line.was in search rules
 
 pub returns-in_err-ranking : goal.returns-in_err-ranking
 returns-in_err-ranking c =
-    let p = err_from_is_err_and c.from_residual.result c.from_residual.ensures.1 in
-    let line = c.in-Ok.line in
-    let whole : line.len - 0 ≡ line.len = omega arith in
-    rw (p.1, p.2)
-    (wrong_candidate (form_of c.args.form) (contest_slate c.args.contest) c.args.sum c.args.left.now line c.in_err-ranking.field-0.0 c.in-Ok.ensures
-    (omega (arith, c.if-line-lt1.false), omega (arith, c.if-line-lt1.false, c.saturating_sub.ensures, c.if-line-saturating_sub.false))
-    (subst (λ n. WrongNumber (contest_slate c.args.contest) (length (field_bytes line.first)) (take n line.numbers) c.in_err-ranking.field-0.0) whole
-    (subst (λ bs. WrongNumber (contest_slate c.args.contest) (length bs) (take (line.len - 0) line.numbers) c.in_err-ranking.field-0.0) c.bytes-head.ensures c.in_err-ranking.ensures)))
+    let p = err_from_is_err_and c.from_residual-in_err-ranking.result c.from_residual-in_err-ranking.ensures.1 in
+    let h = c.in_err-ranking.ensures in
+    rw (p.1, p.2) (wrong_candidate _ _ _ _ c.in_ok-line.line _ (read (goal.at.returns-in_err-ranking c).In_ok-line) (search rules) (search rules))
+
+pub returns-then-not-contains : goal.returns-then-not-contains
+returns-then-not-contains c =
+    let e = rw (c.new.ensures.start, c.new.ensures.end, c.new.ensures.exhausted, c.saturating_sub.ensures) at c.if-not-contains.ensures.value in
+    wrong_count _ _ _ _ c.in_ok-line.line (read (goal.at.returns-then-not-contains c).In_ok-line) (λ counts. not_within _ _ _ e counts.0 (omega (arith, counts.1)))

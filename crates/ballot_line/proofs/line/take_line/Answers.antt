@@ -1,7 +1,6 @@
-use Rattle.std.proofs.Common.{take, refl, ap, arith}
-use native.Mathlib.Nat.{sub-zero}
+use Rattle.std.proofs.Common.{refl}
 use Rattle.std.proofs.lemmas.Result.{err_from_is_err_and}
-use Rattle.ballot_line.proofs.Parts.{line_headless, line_unmarked, line_unranked, ranking_fits, line_fits, line_read}
+use Rattle.ballot_line.proofs.Parts.{line_headless, line_unmarked, line_unranked, line_read}
 use Rattle.ballot_line.proofs.line.take_line.Goals as goal
 
 pub returns-in_err-head : goal.returns-in_err-head
@@ -20,16 +19,5 @@ returns-in_err-row c =
     let p = err_from_is_err_and c.from_residual-in_err-row.result c.from_residual-in_err-row.ensures.1 in
     rw (p.1, p.2) (line_unranked _ _ _ _ _ _ _ c.in_ok-head.ensures c.in_ok-behind.ensures c.in_err-row.ensures)
 
-pub overflow_sub-len : goal.overflow_sub-len
-overflow_sub-len c = omega (arith, ranking_fits _ _ _ _ c.in_ok-row.ensures)
-
-pub overflow_sub-len-2 : goal.overflow_sub-len-2
-overflow_sub-len-2 c = omega (arith, ranking_fits _ _ _ _ c.in_ok-row.ensures)
-
-pub overflow_sub-result : goal.overflow_sub-result
-overflow_sub-result c =
-    omega (arith, ranking_fits _ _ _ _ c.in_ok-row.ensures, line_fits _ _ _ _ _ _ c.in_ok-head.ensures c.in_ok-behind.ensures)
-
 pub returns : goal.returns
-returns c =
-    line_read _ _ _ _ _ _ c.in_ok-head.ensures c.in_ok-behind.ensures c.in_ok-row.ensures tt (ap (λ n. take n c.in_ok-behind.behind.now) (sub-zero _)) refl
+returns c = line_read _ _ _ _ _ _ c.in_ok-head.ensures c.in_ok-behind.ensures c.in_ok-row.ensures tt refl refl

@@ -9,5 +9,5 @@ returns-in_err-rest c =
     let h = c.in_err-rest.ensures in
     rw (p.1, p.2) (ranking_unended _ _ _ c.in-Ok.ensures h.0 h.1)
 
-pub returns : goal.returns
-returns c = MatchResult-weaker c.numbers.result c.numbers.ensures (λ n. ranking_row _ _ _ _) (λ rest. ranking_breaks _ _ c.in_default.ensures.1)
+pub returns-in_default : goal.returns-in_default
+returns-in_default c = MatchResult-weaker c.numbers.result c.numbers.ensures (λ n. ranking_row _ _ _) (λ rest. ranking_breaks _ _ c.in_default.ensures.1)

@@ -1,10 +1,8 @@
-use Rattle.ballot_line.proofs.Steps.{identifier_none, identifier_taken}
+use Rattle.ballot_line.proofs.Steps.{identifier_within, identifier_taken}
 use Rattle.ballot_line.proofs.token.identifier.Goals as goal
 
-pub returns-then-len-eq0 : goal.returns-then-len-eq0
-returns-then-len-eq0 c = identifier_none _ _ c.if-len-eq0.true c.identifier_len-len.ensures.longest
+pub split_at-requires : goal.split_at-requires
+split_at-requires c = identifier_within _ _ c.identifier_len-len.ensures
 
 pub returns : goal.returns
-returns c =
-    let found = c.identifier_len-len.ensures in
-    identifier_taken _ _ _ _ c.if-len-eq0.false found.within found.short found.all found.longest c.split_at.ensures.front c.split_at.ensures.back
+returns c = identifier_taken _ _ c.identifier_len-len.ensures _ _ c.if-len-eq0.false c.split_at.ensures.front c.split_at.ensures.back

@@ -1,19 +1,16 @@
-use Rattle.std.proofs.Common.{sym, refl, ap, ◌∙◌, rules}
+use Rattle.std.proofs.Common.{◌≡◌, true, sym, ap, ◌∙◌}
 use Rattle.irv.specs.Ballots.{member}
 use Rattle.irv.proofs.Recounts.{recount_laws}
+use Rattle.elimination.proofs.Stepping.{not_refused}
 use Rattle.elimination.proofs.recount.recount.Goals as goal
 
-pub returns-then-not-is_candidate : goal.returns-then-not-is_candidate
-returns-then-not-is_candidate g c = record {
-  answer = (ap (λ s. member s c.args.winner) (sym c.contest_of.ensures) ∙ sym c.if-not-is_candidate.ensures, refl);
-  laws = recount_laws;
-  same_contest = refl;
-  same_groups = refl;
-  refused_place = refl;
-}
+pub returns-then-not-is_candidate-clause-laws : goal.returns-then-not-is_candidate-clause-laws
+returns-then-not-is_candidate-clause-laws g c = recount_laws
 
-pub returns : goal.returns
-returns g c =
-    let k = c.in-Ok.ensures.same_rest in
-    let lender = sym k.lender in
-    record { answer = c.in-Ok.ensures.answer; laws = recount_laws; same_contest = let same = k.contest_same in search rules; same_groups = let same = k.groups_same in search rules; refused_place = tt }
+pub returns-clause-laws : goal.returns-clause-laws
+returns-clause-laws g c = recount_laws
+
+pub returns-clause-refused_place : goal.returns-clause-refused_place
+returns-clause-refused_place g c =
+    let stands : member (g.S.BallotSource.contest c.args.source.now) c.args.winner ≡ true = ap (λ s. member s c.args.winner) (sym c.contest_of.ensures) ∙ sym c.if-not-is_candidate.ensures in
+    not_refused c.find_survivor.result (member (g.S.BallotSource.contest c.args.source.now) c.args.winner) _ _ _ stands c.find_survivor.ensures.answer

@@ -1,28 +1,20 @@
-use Rattle.std.proofs.Common.{◌≡◌, ◌-◌, true, false, sym, refl, ap, ◌∙◌, subst, arith}
+use Rattle.std.proofs.Common.{◌≡◌, ◌-◌, ◌^◌, false, sym, ap, ◌∙◌, subst, arith}
 use lib.Bits.{bit_xor}
 use Rattle.std.proofs.lemmas.Nat.{one_shl}
 use Rattle.irv.specs.Sets.{has, with}
-use Rattle.irv.proofs.Bits.{zero_in_none, none_above, taken_out}
+use Rattle.irv.proofs.Bits.{taken_out}
+use Rattle.ballot.proofs.Outside.{nobody_below, nobody_above}
 use Rattle.ballot.proofs.candidate_set.CandidateSet.remove.Goals as goal
 
-pub returns-then-candidate-lt1 : goal.returns-then-candidate-lt1
-returns-then-candidate-lt1 c = record {
-  value = let e : 0 ≡ c.args.candidate = omega arith in sym (ap (has _) (sym e) ∙ zero_in_none _);
-  after = refl;
-}
+pub returns-clause-after : goal.returns-clause-after
+returns-clause-after c =
+    let R = c.self.inside.bits in
+    let x = c.args.candidate in
+    subst (λ S. (has (bit_xor R S) x ≡ false) × (with x (bit_xor R S) ≡ c.args.self.now)) (sym (one_shl (x - 1) 16 (omega arith)))
+    (subst (λ S. (has (bit_xor R (2 ^ (x - 1))) x ≡ false) × (with x (bit_xor R (2 ^ (x - 1))) ≡ S)) c.self.view_is (taken_out R x (ap (λ S. has S x) c.self.view_is ∙ sym c.if-has.ensures)))
 
-pub returns-then-candidate-gt16 : goal.returns-then-candidate-gt16
-returns-then-candidate-gt16 c = record {
-  value = sym (none_above 16 c.args.self.now.bits c.args.candidate (omega arith) (omega arith));
-  after = refl;
-}
+pub returns-in_default-clause-value : goal.returns-in_default-clause-value
+returns-in_default-clause-value c = nobody_below c.args.self.now c.args.candidate (omega arith)
 
-pub returns : goal.returns
-returns c =
-    let in' : has c.args.self.now.bits c.args.candidate ≡ true = sym c.if-not-has.ensures in
-    record {
-      value = sym in';
-      after =
-          subst (λ x. (has (bit_xor c.args.self.now.bits x) c.args.candidate ≡ false) × (with c.args.candidate (bit_xor c.args.self.now.bits x) ≡ c.args.self.now.bits)) (sym (one_shl (c.args.candidate - 1) 16 (omega arith)))
-          (taken_out c.args.self.now.bits c.args.candidate in');
-    }
+pub returns-in_default-3-clause-value : goal.returns-in_default-3-clause-value
+returns-in_default-3-clause-value c = nobody_above c.args.self.now c.args.candidate (omega (arith, c.self.view_is, c.self.invariant)) (omega arith)

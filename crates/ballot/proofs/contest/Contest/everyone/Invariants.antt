@@ -1,6 +1,5 @@
-use Rattle.ballot.specs.Sets.{members}
 use Rattle.ballot.proofs.Growing.{UpTo}
 use Rattle.ballot.proofs.contest.Contest.everyone.Given as goal
 
 abbrev pub invariant-loop-candidate : goal.invariant-loop-candidate
-invariant-loop-candidate l = UpTo (members l.all) l.candidate
+invariant-loop-candidate l = UpTo l.all l.candidate

@@ -1,21 +1,14 @@
-use Rattle.std.proofs.Common.{sym, ap, ◌∙◌}
-use Rattle.std.proofs.lemmas.List.{at_drop_all}
-use Rattle.irv.specs.Ballots.{owner}
-use Rattle.ballot.specs.Sets.{members}
-use Rattle.ballot.proofs.Growing.{found_at, passed_at}
+use Rattle.std.proofs.Common.{◌≡◌, rules, tests}
+use Rattle.std.proofs.lemmas.Iterator.{YieldsList-from_slice}
+use Rattle.std.proofs.lemmas.Iterator.Search.{find_from_yields_List}
+use Rattle.std.specs.List.{find}
+use Rattle.std.specs.Option.{option_map}
+use Rattle.irv.specs.Sets.{has}
+use Rattle.ballot.specs.Values.{ranked}
+use Rattle.ballot.proofs.Finding.{owner_found}
 use Rattle.ballot.proofs.ranking.Ranking.first_in.Goals as goal
-
-pub loop-candidate-init : goal.loop-candidate-init
-loop-candidate-init c = ap (owner (members c.args.standing.now)) (sym c.as_slice-candidate-items.ensures)
-
-pub returns-then-has : goal.returns-then-has
-returns-then-has c =
-    sym (c.loop-candidate.invariant ∙ found_at (members c.args.standing.now) c.as_slice-candidate-items.result.now c.loop-candidate.candidate-index c.loop-candidate-test.true (sym c.if-has.ensures))
-
-pub loop-candidate-preserved : goal.loop-candidate-preserved
-loop-candidate-preserved c =
-    c.loop-candidate.invariant ∙ passed_at (members c.args.standing.now) c.as_slice-candidate-items.result.now c.loop-candidate.candidate-index c.loop-candidate-test.true (sym c.if-has.ensures)
 
 pub returns : goal.returns
 returns c =
-    sym (c.loop-candidate.invariant ∙ at_drop_all (owner (members c.args.standing.now)) c.as_slice-candidate-items.result.now c.loop-candidate.candidate-index c.loop-candidate-test.false)
+    let found : option_map (λ y. y.now) c.find.result ≡ find (has c.args.standing.now) (ranked c.args.self.now) = find_from_yields_List (has c.args.standing.now) _ _ c.find.result c.find.ensures.ran (YieldsList-from_slice (ranked c.args.self.now) cc) (λ x b q k. search (rules, tests)) in
+    cc (owner_found c.args.standing.now (ranked c.args.self.now))

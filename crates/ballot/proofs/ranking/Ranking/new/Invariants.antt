@@ -1,5 +1,7 @@
-use Rattle.std.proofs.Common.{◌≡◌, length, take}
+-- The list holds the candidates so far.
+use Rattle.std.proofs.Common.{◌≡◌, take}
+use Rattle.fixed_list.specs.Lists.{listed}
 use Rattle.ballot.proofs.ranking.Ranking.new.Given as goal
 
-abbrev pub invariant-loop-i : goal.invariant-loop-i
-invariant-loop-i l = (take l.i l.places ≡ take l.i l.candidates) × (length l.places ≡ 16)
+abbrev pub invariant-loop-candidate : goal.invariant-loop-candidate
+invariant-loop-candidate l = listed l.list ≡ take l.candidate-index l.candidates

@@ -1,46 +1,33 @@
-use Rattle.std.proofs.Common.{◌+◌, ◌≤◌, length, drop, sym, subst, arith}
+use Rattle.std.proofs.Common.{◌≡◌, ◌<◌, length, rules, sym, subst, arith}
 use Rattle.std.proofs.lemmas.List.{take_rest}
+use Rattle.std.proofs.lemmas.Result.{err_from_is_err_and, MatchResult-at_err}
 use Rattle.ballot.specs.Values.{contest_slate}
-use Rattle.ballot_line.specs.Faults.{TakesGroup, FaultyLine}
-use Rattle.ballot_line.specs.Lines.{form_of}
-use Rattle.ballot_text.proofs.Opening.{ReadTo, line_within, some_read, at_within, read_more, read_faulty, read_whole}
+use Rattle.ballot_line.specs.Faults.{TakesGroup}
+use Rattle.ballot_line.specs.Forms.{form_of}
+use Rattle.ballot_line.proofs.Mapping.{mapped_err}
+use Rattle.ballot_text.specs.Openings.{FaultyText}
+use Rattle.ballot_text.specs.Texts.{text_bytes}
+use Rattle.ballot_text.proofs.Opening.{line_within, read_more, read_faulty}
 use Rattle.ballot_text.proofs.lines.methods.read_all.Goals as goal
-use Rattle.ballot_text.proofs.lines.methods.read_all.Goals.{After-count-sum}
 
-module _ (c : After-count-sum) where
-  -- the group read, off what is left of the text
-  taken : TakesGroup (form_of c.args.form) (contest_slate c.args.contest) c.loop-at.sum (drop c.loop-at.at c.args.text.now) c.in-Ok.read
-  taken = subst (λ bs. TakesGroup (form_of c.args.form) (contest_slate c.args.contest) c.loop-at.sum bs c.in-Ok.read) (take_rest c.args.text.now c.loop-at.at) c.in-Ok.ensures
-
-  within : c.loop-at.at + c.in-Ok.read.length ≤ length c.args.text.now
-  within =
-      at_within (form_of c.args.form) (contest_slate c.args.contest) c.args.text.now c.loop-at.at c.loop-at.line c.loop-at.sum c.loop-at.invariant.0 c.in-Ok.read taken c.loop-at.invariant.1
-
-  some : 1 ≤ c.in-Ok.read.length
-  some =
-      some_read (form_of c.args.form) (contest_slate c.args.contest) c.args.text.now c.loop-at.at c.loop-at.line c.loop-at.sum c.loop-at.invariant.0 c.in-Ok.read taken
+pub returns-in_err-read : goal.returns-in_err-read
+returns-in_err-read c =
+    let p = err_from_is_err_and c.from_residual.result c.from_residual.ensures.1 in
+    let some : 0 < length c.loop-left.left.now = search rules in
+    let told =
+    mapped_err
+    (λ e d is fault.
+    let same : d ≡ record { cause = e.cause; line = c.loop-left.line; byte = e.byte } = search rules in
+    subst (FaultyText (form_of c.args.form) (contest_slate c.args.contest) (text_bytes c.args.text.now)) (sym same) (read_faulty _ _ _ _ _ _ c.loop-left.invariant e some fault))
+    _ c.take_group.result c.map_err.result c.map_err.ensures.cases c.take_group.ensures in
+    rw (p.1, p.2) (MatchResult-at_err _ _ _ c.in_err-read.was told)
 
 pub overflow_add-line : goal.overflow_add-line
 overflow_add-line c =
-    omega (arith, line_within (form_of c.args.form) (contest_slate c.args.contest) c.args.text.now c.loop-at.at c.loop-at.line c.loop-at.sum c.loop-at.invariant.0, c.loop-at-test.true)
+    let some : 0 < length c.loop-left.left.now = search rules in
+    omega (arith, line_within _ _ _ _ _ _ c.loop-left.invariant, c.args.text.now.short)
 
-pub overflow_add-at : goal.overflow_add-at
-overflow_add-at c = omega (arith, within c)
-
-pub loop-at-smaller : goal.loop-at-smaller
-loop-at-smaller c = omega (arith, within c, some c)
-
-pub loop-at-preserved : goal.loop-at-preserved
-loop-at-preserved c = (
-  subst (λ n. ReadTo (form_of c.args.form) (contest_slate c.args.contest) c.args.text.now (c.loop-at.at + c.in-Ok.read.length) (c.loop-at.line + 1) (c.loop-at.sum + n)) (sym c.count-sum.ensures)
-      (read_more (form_of c.args.form) (contest_slate c.args.contest) c.args.text.now c.loop-at.at c.loop-at.line c.loop-at.sum c.loop-at.invariant.0 c.in-Ok.read (taken c)),
-  within c,
-)
-
-pub returns-in-Err : goal.returns-in-Err
-returns-in-Err c =
-    read_faulty (form_of c.args.form) (contest_slate c.args.contest) c.args.text.now c.loop-at.at c.loop-at.line c.loop-at.sum c.loop-at.invariant.0 c.in-Err.fault c.loop-at-test.true
-    (subst (λ bs. FaultyLine (form_of c.args.form) (contest_slate c.args.contest) c.loop-at.sum bs c.in-Err.fault) (take_rest c.args.text.now c.loop-at.at) c.in-Err.ensures)
-
-pub returns : goal.returns
-returns c = read_whole (form_of c.args.form) (contest_slate c.args.contest) c.args.text.now c.loop-at.at c.loop-at.line c.loop-at.sum c.loop-at.invariant.0 c.loop-at-test.false
+pub loop-left-preserved : goal.loop-left-preserved
+loop-left-preserved c =
+    let took : TakesGroup (form_of c.args.form) (contest_slate c.args.contest) c.loop-left.sum c.loop-left.left.now c.in_ok-read.read = search rules in
+    rw (c.count-sum.ensures, take_rest c.loop-left.left.now c.in_ok-read.read.length) (read_more _ _ _ _ _ _ c.loop-left.invariant c.in_ok-read.read took)

@@ -1,29 +1,24 @@
--- The loop stops at the first record that fails.
-use Rattle.std.proofs.Common.{◌+◌, ◌<◌, length, Some, vec_items, sym, ap, ◌∙◌, arith}
-use Rattle.std.proofs.lemmas.List.{at_drop_all}
-use Rattle.audit.specs.Entries.{lines_from}
-use Rattle.audit.specs.Calls.{first_failing}
-use Rattle.dossier.proofs.Asking.{failing, fails_here, fails_later}
+-- The first record that fails has the lowest number of a line that does.
+use Rattle.std.proofs.Common.{◌≡◌, ◌+◌, ◌∙◌, vec_items, None, Some, ap, rules, tests}
+use Rattle.std.proofs.lemmas.Iterator.{YieldsList-from_slice}
+use Rattle.std.proofs.lemmas.Iterator.Search.{position_from_yields_List}
+use Rattle.std.specs.List.{position}
+use Rattle.std.specs.Option.{option_map}
+use Rattle.dossier.proofs.Asking.{failing, failing_first}
 use Rattle.dossier.proofs.dossier.Dossier.first_failing.Goals as goal
+use Rattle.dossier.proofs.dossier.Dossier.first_failing.Goals.{After-position}
 
-pub returns-then-fails : goal.returns-then-fails
-returns-then-fails c =
-    let rs = vec_items c.args.self.now.records in
-    let i = c.loop-place.place in
-    let r = c.index.result.now in
-    let within : i < length rs = omega (arith, c.len-place-end.ensures) in
-    ap Some (omega arith) ∙ sym (sym c.loop-place.invariant ∙ fails_here rs i r within (ap failing (sym c.index.ensures) ∙ sym c.if-fails.ensures))
+found : (c : After-position) → c.position.result ≡ position failing (vec_items c.args.self.now.records)
+found c = position_from_yields_List failing _ _ c.position.result c.position.ensures.ran (YieldsList-from_slice (vec_items c.args.self.now.records) cc) (λ x b q k. search (rules, tests))
 
-pub loop-place-preserved : goal.loop-place-preserved
-loop-place-preserved c =
+pub returns-in_err-place : goal.returns-in_err-place
+returns-in_err-place c =
     let rs = vec_items c.args.self.now.records in
-    let i = c.loop-place.place in
-    let r = c.index.result.now in
-    let within : i < length rs = omega (arith, c.len-place-end.ensures) in
-    sym (fails_later rs i r within (ap failing (sym c.index.ensures) ∙ sym c.if-fails.ensures)) ∙ c.loop-place.invariant
+    let none : None ≡ position failing rs = cc (found (goal.at.returns-in_err-place c).After-position) in
+    c.from_residual.ensures ∙ ap (option_map (λ i. i + 1)) none ∙ failing_first rs
 
 pub returns : goal.returns
 returns c =
     let rs = vec_items c.args.self.now.records in
-    let i = c.loop-place.place in
-    sym (sym c.loop-place.invariant ∙ at_drop_all (λ qs. first_failing (lines_from (1 + i) qs)) rs i (omega (arith, c.len-place-end.ensures)))
+    let some : Some c.in_ok-place.place ≡ position failing rs = cc (found (goal.at.returns c).After-position) in
+    ap (option_map (λ i. i + 1)) some ∙ failing_first rs

@@ -1,23 +1,33 @@
 -- A number is live where the record at its place is.
-use Rattle.std.proofs.Common.{◌-◌, ◌<◌, length, vec_items, sym, refl, ap, ◌∙◌, arith}
-use Rattle.audit.specs.Entries.{is_among, entries, lines_from}
-use Rattle.audit.proofs.Numbering.{among_below, among_at, among_past}
+use Rattle.std.proofs.Common.{◌≡◌, ◌+◌, ◌<◌, ◌≤◌, ◌∙◌, length, get_or, vec_items, refl, rules}
+use Rattle.audit.proofs.Numbering.{among_below, among_past}
+use Rattle.dossier.proofs.Asking.{among_read}
 use Rattle.dossier.proofs.dossier.Dossier.live_place.Goals as goal
 
-pub returns-then-number-lt1 : goal.returns-then-number-lt1
-returns-then-number-lt1 c = (among_below c.args.number 1 (vec_items c.args.self.now.records) (omega arith), refl)
+pub returns-in_default : goal.returns-in_default
+returns-in_default c = (among_below c.args.number 1 (vec_items c.args.self.now.records) (search rules), refl)
 
-pub returns-then-place-len : goal.returns-then-place-len
-returns-then-place-len c = (among_past c.args.number 1 (vec_items c.args.self.now.records) (omega arith), refl)
-
-pub returns-then-not-index : goal.returns-then-not-index
-returns-then-not-index c =
+pub returns-in-Some-get : goal.returns-in-Some-get
+returns-in-Some-get c =
     let rs = vec_items c.args.self.now.records in
-    let within : c.args.number - 1 < length rs = omega arith in
-    (ap (λ n. is_among n (entries (lines_from 1 rs))) (omega arith) ∙ among_at 1 (c.args.number - 1) rs c.index.result.now within ∙ ap (λ r. r.live) (sym c.index.ensures) ∙ c.if-not-index.true, refl)
+    let i = c.in-Some.place in
+    let r = c.in-Some-get.entered.now in
+    let within : i < length rs = search rules in
+    let read : r ≡ get_or rs i r = search rules in
+    let number : i + 1 ≡ c.args.number = search rules in
+    (among_read c.args.number i rs r number within read ∙ c.if-entered.true, (number, within))
 
-pub returns : goal.returns
-returns c =
+pub returns-in_default-get : goal.returns-in_default-get
+returns-in_default-get c =
     let rs = vec_items c.args.self.now.records in
-    let within : c.args.number - 1 < length rs = omega arith in
-    (ap (λ n. is_among n (entries (lines_from 1 rs))) (omega arith) ∙ among_at 1 (c.args.number - 1) rs c.index.result.now within ∙ ap (λ r. r.live) (sym c.index.ensures) ∙ c.if-not-index.false, (omega arith, within))
+    let i = c.in-Some.place in
+    let r = c.in-Some-get.entered.now in
+    let within : i < length rs = search rules in
+    let read : r ≡ get_or rs i r = search rules in
+    (among_read c.args.number i rs r (search rules) within read ∙ c.if-entered.false, refl)
+
+pub returns-in_default-get-2 : goal.returns-in_default-get-2
+returns-in_default-get-2 c =
+    let rs = vec_items c.args.self.now.records in
+    let past : length rs ≤ c.in-Some.place = search rules in
+    (among_past c.args.number 1 rs (search rules), refl)

@@ -7,8 +7,8 @@ use Rattle.dossier.proofs.dossier.Dossier.margin.Goals as goal
 
 pub returns : goal.returns
 returns c =
-    let r = c.index.result.now in
+    let r = c.index-entered.result.now in
     let live = c.in_ok-place.ensures in
     let fits : SFits w64 r.margin = search rules in
     ap (λ m. Ok (m, c.top.result)) (to_z-of_z w64 r.margin fits) ∙ ap (λ t. Ok (r.margin, t)) c.top.ensures
-    ∙ sym (margin_told (state c.args.self.now) c.args.number c.in_ok-place.place r live.0 (tally_mark c.args.self.now.stage c.in_ok-may_answer.field-0 c.in_ok-may_answer.ensures) live.1.0 live.1.1 c.index.ensures)
+    ∙ sym (margin_told (state c.args.self.now) c.args.number c.in_ok-place.place r live.0 (tally_mark c.args.self.now.stage c.in_ok-may_answer.field-0 c.in_ok-may_answer.ensures) live.1.0 live.1.1 c.index-entered.ensures)

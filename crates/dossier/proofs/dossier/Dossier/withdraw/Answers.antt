@@ -5,7 +5,7 @@ use Rattle.audit.specs.Calls.{ended, changed_at, answered}
 use Rattle.audit.specs.States.{unless_so}
 use Rattle.ballot.specs.declared.refusal.Refusal.TheVariants.{NumberNotLive}
 use Rattle.audit.specs.declared.stage.Stage.TheVariants.{Plain}
-use Rattle.dossier.specs.Dossiers.{state, at_stage, holding}
+use Rattle.dossier.specs.Dossiers.{state, at_stage}
 use Rattle.dossier.specs.Fine.{fine_record}
 use Rattle.dossier.proofs.Keeping.{fine_at, fine_set, set_changed}
 use Rattle.dossier.proofs.dossier.Dossier.withdraw.Goals as goal
@@ -28,5 +28,5 @@ returns c =
     record {
       shown = tt;
       reply = sym (ap (λ b. answered (unless_so b NumberNotLive) tt) live.0);
-      after_is = c.go_on.ensures ∙ ap (λ qs. at_stage Plain (holding qs (state c.args.self.now))) done;
+      after_is = c.go_on.ensures ∙ (let s = at_stage Plain (state c.args.self.now) in ap (λ qs. record s { records = qs }) done);
     }

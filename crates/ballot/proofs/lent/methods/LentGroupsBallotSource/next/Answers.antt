@@ -1,24 +1,15 @@
-use Rattle.std.proofs.Common.{get_or, refl, ap, arith}
-use Rattle.std.proofs.lemmas.List.{length-map, get_or_default}
+use Rattle.std.proofs.Common.{◌≡◌, ◌<◌, length, get_or, refl, ap, ◌∙◌, arith, rules}
 use Rattle.irv.specs.Ballots.{slate}
-use Rattle.ballot.specs.Values.{group_value}
 use Rattle.ballot.proofs.GroupLists.{handed_out, one_of_contest}
 use Rattle.ballot.proofs.lent.methods.LentGroupsBallotSource.next.Goals as goal
 
-pub returns-then-at-self : goal.returns-then-at-self
-returns-then-at-self c = record {
-  same_contest = refl;
-  same_groups = refl;
-  cases = (omega (arith, length-map c.args.self.now.groups.now group_value), refl);
-}
-
-pub returns : goal.returns
-returns c =
+pub returns-clause-cases : goal.returns-clause-cases
+returns-clause-cases c =
     let gs = c.args.self.now.groups.now in
     let i = c.args.self.now.place in
-    let g = get_or gs i c.index-self-at.result in
-    record {
-      same_contest = refl;
-      same_groups = refl;
-      cases = (handed_out gs i g (omega arith) (get_or_default gs i c.index-self-at.result g (omega arith)), (ap slate (one_of_contest c.args.self.now.contest.candidates gs i c.index-self-at.result (omega arith) c.args.self.now.one_contest), refl));
-    }
+    let g = c.in_ok-group.group.now in
+    let is : g ≡ get_or gs i g = search rules in
+    let within : i < length gs = omega arith in (
+      handed_out gs i g within is,
+      (ap (λ h. slate h.ranking.candidates) is ∙ ap slate (one_of_contest c.args.self.now.contest.candidates gs i g within c.args.self.now.one_contest), refl),
+    )

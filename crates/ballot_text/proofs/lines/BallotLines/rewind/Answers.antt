@@ -1,9 +1,0 @@
-use Rattle.ballot_line.specs.Lines.{form_of}
-use Rattle.ballot_text.specs.Texts.{text_bytes}
-use Rattle.ballot_text.proofs.Placing.{again_at_start}
-use Rattle.ballot_text.proofs.lines.BallotLines.rewind.Goals as goal
-
-pub invariant_of-self : goal.invariant_of-self
-invariant_of-self c =
-    let s = c.args.self.now in
-    record { reading = again_at_start (form_of s.form) s.contest.candidates (text_bytes s.text.now) s.ballots s.at s.place s.reading }

@@ -1,9 +1,0 @@
--- The records before the place are changed, and the others are as they were.
-use Rattle.std.proofs.Common.{◌≡◌, vec_items}
-use Rattle.dossier.specs.Dossiers.{state, holding}
-use Rattle.dossier.specs.Tallies.{cleared}
-use Rattle.dossier.proofs.Tallying.{partly}
-use Rattle.dossier.proofs.dossier.Dossier.clear_margins.Given as goal
-
-abbrev pub invariant-loop-place : goal.invariant-loop-place
-invariant-loop-place l = state l.self ≡ holding (partly cleared l.place (vec_items l.initial.self.records)) (state l.initial.self)

@@ -1,0 +1,45 @@
+// How many ballots each candidate has.
+ghost use Rattle.std.specs.Prelude.{◌≡◌, ◌+◌, ◌-◌, ◌<◌, ◌≤◌, ◌^◌, true, slice_index, slice_set, MatchOption};
+ghost use Rattle.irv.specs.Sets.{has};
+ghost use Rattle.irv.specs.Tables.{shown, LeastIn};
+ghost use Rattle.elimination.specs.Counts.{Somebody};
+
+use ballot::candidate_set::CandidateSet;
+
+// Candidate 1 stands at the first place of the array, which has a place for each that a contest may have: a tally takes no
+// memory. A place is found by `as`, since nothing converts a u32 into a usize otherwise without failing.
+#[derive(Clone, Copy, Default)]
+pub(crate) struct Tallies {
+    counts: [u32; 16],
+}
+
+impl Tallies {
+    // How many ballots `candidate` has; a number outside 1 to 16 has 0.
+    pub(crate) fn of(&self, candidate: u32) -> u32
+        ensures { result ≡ shown self.now.counts candidate }
+    {
+        match candidate {
+            1..=16 => self.counts[candidate as usize - 1],
+            _ => 0,
+        }
+    }
+
+    // Adds `ballots` to those of `candidate`.
+    pub(crate) fn add(&mut self, candidate: u32, ballots: u32)
+        requires candidate { (1 ≤ candidate) × (candidate ≤ 16) }
+        requires sum { slice_index self.old.counts (candidate - 1) + ballots < 2 ^ 32 }
+        ensures { self.new.counts ≡ slice_set self.old.counts (candidate - 1) (slice_index self.old.counts (candidate - 1) + ballots) }
+    {
+        self.counts[candidate as usize - 1] += ballots;
+    }
+
+    // Who of `standing` has the fewest ballots, of equals the lowest number, if anybody stands.
+    pub(crate) fn least(&self, standing: &CandidateSet) -> Option<u32>
+        ensures { MatchOption result (Somebody standing.now → ⊥) (λ c. (has standing.now c ≡ true) × LeastIn standing.now (shown self.now.counts) c) }
+    {
+        // Half open, since the library has no law of a chain over `1..=16`.
+        (1..17)
+            .filter(|candidate| standing.has(*candidate))
+            .min_by_key(|candidate| self.of(*candidate))
+    }
+}
