@@ -15,14 +15,15 @@ pub(crate) fn require(holds: bool, cause: Cause) -> Result<(), Cause>
     if holds { Ok(()) } else { Err(cause) }
 }
 
-// Whether the number is a candidate.
+// Ok where the number is a candidate; else the cause.
 pub(crate) fn stands(contest: Contest, candidate: u32) -> Result<(), Cause>
     ensures { judgement result ≡ foreign_in (contest_slate contest) (candidate ∷ []) }
 {
     require(contest.is_candidate(candidate), Cause::Foreign(candidate))
 }
 
-// Whether both numbers are candidates.
+// Ok where both numbers are candidates; else the first cause. The two are no type of their own, since any two
+// numbers make an assertion.
 pub(crate) fn both_stand(contest: Contest, winner: u32, loser: u32) -> Result<(), Cause>
     ensures { judgement result ≡ foreign_in (contest_slate contest) (winner ∷ loser ∷ []) }
 {
@@ -37,7 +38,7 @@ fn lowest_foreign(contest: Contest, set: CandidateSet) -> Option<u32>
     (1..=16).find(|c| set.has(*c) && !contest.is_candidate(*c))
 }
 
-// Whether each member of the set is a candidate.
+// Ok where each member of the set is a candidate; else the cause.
 pub(crate) fn all_stand(contest: Contest, set: CandidateSet) -> Result<(), Cause>
     ensures { judgement result ≡ foreign_in (contest_slate contest) (members_of set) }
 {
@@ -47,7 +48,7 @@ pub(crate) fn all_stand(contest: Contest, set: CandidateSet) -> Result<(), Cause
     }
 }
 
-// Whether the two are different candidates.
+// Ok where the two are different candidates; else the cause.
 pub(crate) fn differ(winner: u32, loser: u32) -> Result<(), Cause>
     ensures { judgement result ≡ unless (not (winner == loser)) (same winner) }
 {

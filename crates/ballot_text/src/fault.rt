@@ -4,7 +4,8 @@ ghost use Rattle.std.specs.Prelude.{◌≡◌};
 use ballot::refusal::Refusal;
 use ballot_line::LineFault;
 
-// The line and the byte in it count from 1; both are 0 where the cause is no line.
+// The line and the byte in it count from 1; both are 0 where the cause is no line. Numbers and no Option, since line 0 and
+// byte 0 are what is answered then.
 #[derive(Clone, Copy, Debug, PartialEq, Eq)]
 pub struct Fault {
     pub cause: Refusal,

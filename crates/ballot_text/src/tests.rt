@@ -7,7 +7,7 @@ use ballot::source::BallotSource;
 use ballot_line::TextForm;
 use std::test::Fail;
 
-// The form is a value of the table here, and of a source it is a part of the type.
+// Matched here, since the form is a value of the table and part of the type of a source.
 fn fault_of(form: TextForm, candidates: u32, text: &str) -> Option<Fault> {
     let text = BallotText::new(text.as_bytes());
     match form {

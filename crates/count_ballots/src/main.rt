@@ -123,7 +123,7 @@ fn main(rt: HostRuntime) -> anyhow::Result<()> {
     let mut bytes = Vec::new(rt.alloc());
     rt.stdin().read_to_end(&mut bytes)?;
     let text = BallotText::new(bytes.as_slice());
-    // The form is what the arguments say, and of a source it is a part of the type.
+    // Matched here, since the form is a value of the arguments and part of the type of a source.
     match form {
         TextForm::Rows => print_opened(&rt, RowsText::open(candidates, &text), form)?,
         TextForm::Groups => print_opened(&rt, GroupsText::open(candidates, &text), form)?,

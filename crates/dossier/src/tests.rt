@@ -46,6 +46,7 @@ fn neb(winner: u32, loser: u32) -> Assertion {
     Assertion::Neb(Neb { winner, loser })
 }
 
+// The set is made here, as in work_dossier: a call that took any numbers would have to say which it left out.
 fn nen(winner: u32, loser: u32, standing: &[u32]) -> Assertion {
     let mut set = CandidateSet::new();
     for candidate in standing {
@@ -98,6 +99,7 @@ fn planned(dossier: &Dossier, room: usize) -> Reply {
     done(dossier.plan(&mut page[..room.min(512)]))
 }
 
+// The moves are data, and each has its own arguments and its own reply.
 fn make(dossier: &mut Dossier, call: Move) -> Result<Reply, Fail> {
     match call {
         Move::Enter(assertion) => Ok(done(dossier.enter(assertion))),

@@ -6,8 +6,8 @@ ghost use Rattle.elimination.specs.Counts.{Somebody};
 
 use ballot::candidate_set::CandidateSet;
 
-// Candidate 1 stands at the first place of the array, which has a place for each that a contest may have: a tally takes no
-// memory. A place is found by `as`, since nothing converts a u32 into a usize otherwise without failing.
+// One place for each candidate that a contest may have, candidate 1 at the first; a fixed array, so that a tally takes no
+// memory. A place is found by `as`, since nothing else makes a usize of a u32 without failing.
 #[derive(Clone, Copy, Default)]
 pub(crate) struct Tallies {
     counts: [u32; 16],

@@ -13,7 +13,8 @@ fn group(contest: Contest, count: u32, candidates: &[u32]) -> Result<Group, Refu
     Group::new(Ranking::new(contest, candidates)?, count)
 }
 
-// Whether the answer is this order, first out first, after so many endings.
+// Whether the answer is this order, first out first, after so many endings. As in the tests of search, which a crate above
+// cannot use.
 fn is_found(answer: Answer, order: &[u32], tried: u64) -> bool {
     matches!(answer, Answer::Found(ending, total) if total == tried && ending.as_slice() == order)
 }

@@ -12,7 +12,7 @@ pub struct FixedList<T, const N: usize> {
     ghost room: { len ≤ N },
 }
 
-// No derive makes the copy of a type parameter's values beside a ghost field.
+// By hand, since no derive copies a struct with a type parameter and a ghost field.
 impl<T: Copy, const N: usize> Clone for FixedList<T, N> {
     ghost is_clone = { λ x y. y ≡ x };
 

@@ -59,7 +59,7 @@ fn case_in(line: &str) -> Option<Case<'_>> {
     })
 }
 
-// The form is what the case says, and of a source it is a part of the type.
+// Matched here, since the form is a value of the case and part of the type of a source.
 fn open<'t>(candidates: u32, form: TextForm, text: &BallotText<'t>) -> Result<Contents<'t>, Fault> {
     match form {
         TextForm::Rows => {

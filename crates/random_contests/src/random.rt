@@ -29,6 +29,7 @@ impl Random {
             .wrapping_mul(6364136223846793005)
             .wrapping_add(1442695040888963407);
         let choices = u64::from(most - least) + 1;
+        // By `as`, since a remainder is below the number of choices.
         least + ((self.state >> 33) % choices) as u32
     }
 

@@ -1,7 +1,8 @@
 // What a search comes to.
 use crate::ending::Ending;
 
-// Three outcomes, of which one has no count: neither an Option nor a Result. It stopped at the limit, or it found the survivor or that there is none, and says how many endings it tried.
+// A search stopped at its limit, or found the survivor, or found that there is none, and then says how many endings it
+// tried. One of the three has no count, so that this is neither an Option nor a Result.
 #[derive(Clone, Copy)]
 pub enum Answer {
     Stopped,

@@ -64,8 +64,8 @@ impl Ending {
         }
     }
 
-    // The ending with `candidate` as its newest member. Its bounds are asked for here and no type of its own carries them,
-    // since a candidate is the number that callers and texts name it by.
+    // The ending with `candidate` as its newest member. The bounds of `candidate` are required here and are no type's,
+    // since callers and texts name a candidate by its bare number.
     pub(crate) fn grown_by(mut self, candidate: u32) -> Ending
         requires { (length (listing self) < 16) × ((1 ≤ candidate) × (candidate ≤ 16)) }
         ensures { listing result ≡ candidate ∷ listing self }

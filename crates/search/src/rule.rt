@@ -23,7 +23,8 @@ pub trait Rule {
     fn candidates(&self) -> u32
         ensures { slate result ≡ contest self.now };
 
-    // Whether it is ruled out that `out` goes out of `standing`; where that is no step of the contest, it is not.
+    // Whether it is ruled out that `out` goes out of `standing`; where that is no step of the contest, it is not. The two
+    // are no type of their own, since a question may be about no step at all.
     fn rules_out(&mut self, standing: CandidateSet, out: u32) -> bool
         ensures value { result ≡ ruling self.old standing out }
         ensures same { SameRule contest ruling kept self.old self.new };

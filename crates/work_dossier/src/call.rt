@@ -8,7 +8,8 @@ use ballot::candidate_set::CandidateSet;
 use joined::Joined;
 use std::fmt;
 
-// An assertion as it is written: its kind and its numbers.
+// An assertion as it is written: its kind and its numbers. A type beside `Assertion`, which holds a set and has no form in
+// which a course could be written as a constant.
 #[derive(Clone, Copy)]
 pub enum Written {
     Neb(u32, u32),
@@ -41,6 +42,7 @@ pub enum Reply<'p> {
     Page(&'p [u8]),
 }
 
+// The set of those of the numbers that a set has room for; `insert` says which, and the course has no others.
 fn set_of(numbers: &[u32]) -> CandidateSet {
     let mut set = CandidateSet::new();
     for number in numbers {

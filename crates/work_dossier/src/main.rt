@@ -70,6 +70,7 @@ fn plan<'p>(dossier: &Dossier, page: &'p mut [u8]) -> Result<Reply<'p>, Refusal>
     Ok(Reply::Page(&page[..length]))
 }
 
+// The calls of a course are data, and each has its own arguments and its own reply.
 fn make<'p, S: BallotSource>(
     dossier: &mut Dossier,
     source: &mut S,

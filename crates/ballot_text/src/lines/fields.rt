@@ -24,8 +24,8 @@ impl<'a, 't, F: LineForm> BallotLines<'a, 't, F> {
             return Err(Refusal::PlaceOutOfRange);
         }
         let text = self.text.bytes();
+        // A count and an index, since the line is asked for by its number and the answer says where it begins.
         let mut passed = 0;
-        // An index, since the answer says where the line begins.
         let mut at = 0;
         while at < text.len() {
             let read = read_line(F::form(), &text[at..]).unwrap();

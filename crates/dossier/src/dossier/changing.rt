@@ -16,9 +16,9 @@ impl Dossier {
     pub(crate) fn live_place(&self, number: u32) -> Result<usize, Refusal>
         ensures { LivePlace (state self.now) number result }
     {
-        let Some(place) = (number as usize).checked_sub(1) else {
-            return Err(Refusal::NumberNotLive);
-        };
+        let place = (number as usize)
+            .checked_sub(1)
+            .ok_or(Refusal::NumberNotLive)?;
         match self.records.get(place) {
             Some(entered) if entered.live => Ok(place),
             _ => Err(Refusal::NumberNotLive),

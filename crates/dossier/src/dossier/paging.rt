@@ -17,7 +17,7 @@ use page::sink::Sink;
 use page::writing::number_line;
 
 impl Dossier {
-    // How many ballots to pull for the record; none where it is not live.
+    // How many ballots to pull for the record; 0 where it is not live.
     fn sample_for(&self, entered: &AssertionRecord) -> u32
         ensures { result ≡ pulled_for self.now.factor self.now.ballots entered.now }
     {
@@ -53,8 +53,9 @@ impl Dossier {
             return;
         }
         let margin = entered.margin.unsigned_abs();
+        // By `as`, since the share of a margin within its bounds fits a u64.
         let part = share(entered.assertion.half(), margin, self.ballots) as u64;
-        let pulled = sample(self.factor, entered.assertion.top(), margin, self.ballots);
+        let pulled = self.sample_for(entered);
         assertion_line(sink, number, &entered.assertion);
         number_line(sink, b"margin=", margin);
         number_line(sink, b"share=", part);
@@ -66,6 +67,7 @@ impl Dossier {
         ensures { S.took sink.old (flat_map (line_bytes self.now.factor self.now.ballots) (lines_from 1 self.now.records.items)) sink.new }
     {
         for (place, entered) in self.records.iter().enumerate() {
+            // By `as`, since there are 256 places at most.
             self.write_record(place as u32 + 1, entered, sink);
         }
     }

@@ -22,6 +22,7 @@ impl Dossier {
     fn first_failing(&self) -> Option<u32>
         ensures { result ≡ first_failing (lines_from 1 self.now.records.items) }
     {
+        // By `as`, as between numbers and places.
         let place = self.records.iter().position(fails)?;
         Some(place as u32 + 1)
     }
@@ -38,7 +39,7 @@ impl Dossier {
         if let Some(number) = self.first_failing() {
             return Err(Refusal::AssertionDoesNotHold(number));
         }
-        // By `as` here and below, as between numbers and places: a usize has no other conversion that cannot fail.
+        // By `as` here and below, since a usize has no other conversion that cannot fail.
         let needed = self.page_length();
         if needed > page.len() as u64 {
             return Err(Refusal::BufferTooShort(needed));

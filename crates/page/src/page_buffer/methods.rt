@@ -10,7 +10,7 @@ impl<'b> Sink for PageBuffer<'b> {
     ghost joins = { laid_into_joins (λ x. x.bytes) (λ x. x.len) };
 
     fn put(&mut self, byte: u8) {
-        // An index, since of a place that `get_mut` lends out of a field a proof knows nothing afterwards.
+        // An index, since a proof knows nothing of a place after `get_mut` has lent it out of a field.
         if self.len < self.bytes.len() {
             self.bytes[self.len] = byte;
             self.len += 1;

@@ -1,5 +1,5 @@
 -- The four lines of a live record.
-use Rattle.std.proofs.Common.{◌≡◌, ◌^◌, ◌<◌, ◌≤◌, nat_abs, w64, SFits, sym, refl, ap, ◌∙◌, arith, rules}
+use Rattle.std.proofs.Common.{◌≡◌, cond, ◌^◌, ◌<◌, ◌≤◌, nat_abs, w64, SFits, sym, refl, ap, ◌∙◌, arith, rules}
 use Rattle.std.proofs.lemmas.Int.{to_z-of_z}
 use Rattle.std.proofs.lemmas.List.{append-nil}
 use Rattle.std.specs.List.{flat_map}
@@ -31,7 +31,7 @@ returns g c =
     let margin : c.unsigned_abs-margin.result ≡ m = c.unsigned_abs-margin.ensures.value ∙ ap nat_abs (to_z-of_z w64 r.margin fits) in
     let part : c.share-part.result ≡ share (half_kind a) m d.ballots = c.share-part.ensures ∙ ap (λ h. share h c.unsigned_abs-margin.result d.ballots) c.half.ensures ∙ ap (λ x. share (half_kind a) x d.ballots) margin in
     let pulled : c.from.result ≡ sample d.factor (top_kind a) m d.ballots =
-    c.from.ensures ∙ c.sample-pulled.ensures ∙ ap (λ t. sample d.factor t c.unsigned_abs-margin.result d.ballots) c.top.ensures ∙ ap (λ x. sample d.factor (top_kind a) x d.ballots) margin in
+    c.from.ensures ∙ c.sample_for-pulled.ensures ∙ ap (λ b. cond b (sample d.factor (top_kind a) m d.ballots) 0) c.if-not-entered.false in
     let lines : four_lines a c.args.number c.unsigned_abs-margin.result c.share-part.result c.from.result ≡ line_bytes d.factor d.ballots (line_at c.args.number r) =
     ap (λ x. four_lines a c.args.number x c.share-part.result c.from.result) margin ∙ ap (λ x. four_lines a c.args.number m x c.from.result) part ∙ ap (four_lines a c.args.number m (share (half_kind a) m d.ballots)) pulled in
     put_on j c.assertion_line.ensures (put_on j c.number_line.ensures (put_on j c.number_line-2.ensures c.number_line-3.ensures refl) refl)
