@@ -1,7 +1,5 @@
 -- The values of the ballots, group by group: the sum after one more group, and that it stays small.
-use Rattle.std.proofs.Common.{◌≡◌, ℕ, ◌+◌, ◌*◌, ◌^◌, ◌<◌, ◌≤◌, List, [], ◌∷◌, drop, ℤ, pos, ◌-ℤ◌, Some, None, Option, w64, ap, ◌∙◌, mul-le-mul_right, arith}
-use Rattle.std.specs.Prelude.{SomeIff, FitsSigned}
-use Rattle.std.proofs.lemmas.Int.{ints}
+use Rattle.std.proofs.Common.{◌≡◌, ℕ, ◌+◌, ◌*◌, ◌≤◌, List, [], ◌∷◌, drop, ap, ◌∙◌, mul-le-mul_right, arith}
 use Rattle.std.proofs.lemmas.List.Sums.{sum_by-cons}
 use Rattle.irv.specs.Ballots.{Slate, BallotGroup, ballots, most_ballots, Fits}
 use Rattle.irv.specs.Assertions.{value_sum}
@@ -31,8 +29,3 @@ sum_fits value s small gs p fit =
 -- the half for each ballot is small too
 pub halves_fit : (half n : ℕ) → half ≤ 1000 → n ≤ most_ballots → half * n ≤ most_value
 halves_fit half n low few = omega (arith, mul-le-mul_right n low)
-
--- what `checked_signed_diff` answers where the difference fits
-pub difference : (r : Option ℤ) (a b : ℕ) → a < 2 ^ 63 → b < 2 ^ 63 → SomeIff r (FitsSigned w64 (pos a -ℤ pos b)) (pos a -ℤ pos b) → r ≡ Some (pos a -ℤ pos b)
-difference None a b few few' h = absurd (h (record { sfits = omega (arith, ints) }))
-difference (Some x) a b few few' h = ap Some h.1

@@ -39,6 +39,15 @@ fn sum_all<A: Assorter, S: BallotSource>(assertion: &A, source: &mut S) -> u64
     sum_rest(assertion, source)
 }
 
+// By how much `sum` passes `half` for each of the ballots.
+fn passed_by(sum: u64, half: u32, ballots: u32) -> i64
+    requires { (sum ≤ most_value) × (half * ballots ≤ most_value) }
+    ensures { result ≡ pos sum -ℤ pos (half * ballots) }
+{
+    sum.checked_signed_diff(u64::from(half) * u64::from(ballots))
+        .unwrap()
+}
+
 // Adds up what the assertion is worth on all ballots of the source, whose place moves. An assertion that does
 // not fit the contest is refused, and the source stays as it was. Where the margin is above 0, no count of
 // the ballots has a step that the assertion rules out.
@@ -52,7 +61,6 @@ pub fn tally<A: Assorter, S: BallotSource>(
 {
     assertion.judge(contest_of(source))?;
     let sum = sum_all(assertion, source);
-    let halves = u64::from(assertion.half()) * u64::from(source.ballots());
-    let margin = sum.checked_signed_diff(halves).unwrap();
+    let margin = passed_by(sum, assertion.half(), source.ballots());
     Ok(Tallied { sum, margin })
 }

@@ -70,9 +70,14 @@ impl CandidateSet {
         ensures after { Removed result candidate self.old self.new }
     {
         match candidate {
-            1..=16 if self.has(candidate) => self.bits ^= 1 << (candidate - 1),
-            _ => return false,
+            1..=16 => {
+                if !self.has(candidate) {
+                    return false;
+                }
+                self.bits ^= 1 << (candidate - 1);
+                true
+            }
+            _ => false,
         }
-        true
     }
 }

@@ -48,12 +48,12 @@ pub number_none : (bs rest : List ℕ) → rest ≡ bs → Outside digit_byte bs
 number_none bs rest all outside = record { all = all; missing = number_ends_outside [] bs outside }
 
 -- the byte at n is of another class
-stops_at : (bs : List ℕ) (n : ℕ) → n < length bs → identifier_byte (get_or bs n 0) ≡ false → Outside identifier_byte (drop n bs)
+pub stops_at : (bs : List ℕ) (n : ℕ) → n < length bs → identifier_byte (get_or bs n 0) ≡ false → Outside identifier_byte (drop n bs)
 stops_at bs n within other b more e is =
     let same : get_or bs n 0 ≡ b = cc (drop_more bs n 0 within) in
     both_ways (identifier_byte b) (subst (λ c. identifier_byte c ≡ false) same other) is
 
-stops_past : (bs : List ℕ) (n : ℕ) → length bs ≤ n → Outside identifier_byte (drop n bs)
+pub stops_past : (bs : List ℕ) (n : ℕ) → length bs ≤ n → Outside identifier_byte (drop n bs)
 stops_past bs n past b more e is =
     let none : ◌≡◌ {A = ℕ} 0 (length more + 1) = ap length (sym (drop_all n bs past) ∙ e) ∙ omega arith in
     omega arith

@@ -9,7 +9,7 @@ use Rattle.std.proofs.lemmas.List.Sums.{sum_by-le}
 use Rattle.std.specs.List.{flat_map, sum_by}
 use Rattle.forms.specs.Written.{comma}
 
-digit_more : (n : ℕ) → 10 ≤ n → n < 2 ^ 32 → length (decimal n) ≡ length (decimal (n / 10)) + 1
+pub digit_more : (n : ℕ) → 10 ≤ n → n < 2 ^ 32 → length (decimal n) ≡ length (decimal (n / 10)) + 1
 digit_more n h small = ap length (decimal_step n h (omega arith)) ∙ length-append (decimal (n / 10)) _
 
 pos_pow : (k : ℕ) → 1 ≤ 10 ^ k

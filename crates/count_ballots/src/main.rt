@@ -15,7 +15,7 @@ use joined::Joined;
 use search::answer::Answer;
 use std::env::Args;
 use std::io::Read;
-use std::{env, io, iter};
+use std::{env, fmt, io};
 
 // How many endings the recount may try.
 const RECOUNT_LIMIT: u64 = 1_000_000;
@@ -37,32 +37,44 @@ fn request_in(mut args: Args) -> Option<Request> {
     Some(Request { candidates, form })
 }
 
-// One step: the tallies of candidates 1, 2 and so on, and who goes out.
-fn print_step(
-    rt: &(impl Print + AllocGlobal),
-    number: usize,
-    step: &CountStep,
+// The tallies of a step, as they are printed: those of candidates 1, 2 and so on up to `candidates`. Printed one after the
+// other, so that a count that was begun wants no memory.
+#[derive(Clone, Copy)]
+struct StepTallies<'c> {
+    step: &'c CountStep,
     candidates: u32,
-) -> io::Result<()> {
-    let tallies: Vec<u32> = (1..=candidates)
-        .map(|candidate| step.tally(candidate))
-        .collect(rt.alloc())?;
-    println!(rt;
-        "step={number} tallies={} out={}",
-        Joined(tallies.as_slice(), ","),
-        step.out()
-    )
+}
+
+impl fmt::Display for StepTallies<'_> {
+    fn fmt<W: fmt::Write>(&self, f: &mut fmt::Formatter<W>) -> fmt::Result {
+        write!(f, "{}", self.step.tally(1))?;
+        for candidate in 2..=self.candidates {
+            write!(f, ",{}", self.step.tally(candidate))?;
+        }
+        Ok(())
+    }
 }
 
 // All candidates as they go out, the winner last.
-fn print_order(rt: &(impl Print + AllocGlobal), count: &Count) -> io::Result<()> {
-    let order: Vec<u32> = count
-        .steps()
-        .iter()
-        .map(|step| step.out())
-        .chain(iter::once(count.winner()))
-        .collect(rt.alloc())?;
-    println!(rt; "order={}", Joined(order.as_slice(), ","))
+#[derive(Clone, Copy)]
+struct CountOrder<'c>(&'c Count);
+
+impl fmt::Display for CountOrder<'_> {
+    fn fmt<W: fmt::Write>(&self, f: &mut fmt::Formatter<W>) -> fmt::Result {
+        for step in self.0.steps() {
+            write!(f, "{},", step.out())?;
+        }
+        write!(f, "{}", self.0.winner())
+    }
+}
+
+// One step: its tallies, and who goes out.
+fn print_step(rt: &impl Print, number: usize, step: &CountStep, candidates: u32) -> io::Result<()> {
+    println!(rt;
+        "step={number} tallies={} out={}",
+        StepTallies { step, candidates },
+        step.out()
+    )
 }
 
 // Whether every count elects the winner, or the first that elects another.
@@ -82,18 +94,14 @@ fn print_recount<S: BallotSource>(rt: &impl Print, source: &mut S, winner: u32) 
     }
 }
 
-fn print_count<S: BallotSource>(
-    rt: &(impl Print + AllocGlobal),
-    source: &mut S,
-    form: TextForm,
-) -> io::Result<()> {
+fn print_count<S: BallotSource>(rt: &impl Print, source: &mut S, form: TextForm) -> io::Result<()> {
     let groups = groups_in(source);
     let count = count_ballots(source);
     let steps = count.steps();
     for (step, number) in steps.iter().zip(1usize..) {
         print_step(rt, number, step, source.candidates())?;
     }
-    print_order(rt, &count)?;
+    println!(rt; "order={}", CountOrder(&count))?;
     let winner = count.winner();
     println!(rt; "winner={winner}")?;
     print_recount(rt, source, winner)?;
@@ -106,7 +114,7 @@ fn print_count<S: BallotSource>(
 
 // The count of the ballots of a text, or the fault for which it was not opened.
 fn print_opened<S: BallotSource + Drop>(
-    rt: &(impl Print + AllocGlobal),
+    rt: &impl Print,
     opened: Result<S, Fault>,
     form: TextForm,
 ) -> io::Result<()> {

@@ -39,7 +39,7 @@ fine_set s (q ∷ rs) (suc i) r all one =
     and_from (fine_record s q) (all_fine s (set rs i r)) parts.0 (fine_set s rs i r parts.1 one)
 
 -- what an element that was read says
-fine_read : (s : Slate) (rs : List AssertionRecord) (i : ℕ) (r : AssertionRecord) → i < length rs → r ≡ get_or rs i r → all_fine s rs ≡ true → fine_record s r ≡ true
+pub fine_read : (s : Slate) (rs : List AssertionRecord) (i : ℕ) (r : AssertionRecord) → i < length rs → r ≡ get_or rs i r → all_fine s rs ≡ true → fine_record s r ≡ true
 fine_read s rs i r within is all = ap (fine_record s) is ∙ fine_at s rs i r within all
 
 pub set_changed : (f : AssertionRecord → AssertionRecord) (rs : List AssertionRecord) (i : ℕ) (d : AssertionRecord) → i < length rs → set rs i (f (get_or rs i d)) ≡ changed_at f i rs

@@ -27,12 +27,12 @@ module _ (f : AssertionRecord → AssertionRecord) where
   abbrev pub partly : ℕ → List AssertionRecord → List AssertionRecord
   partly i rs = map f (take i rs) ++ drop i rs
 
-  length_partly : (i : ℕ) (rs : List AssertionRecord) → length (partly i rs) ≡ length rs
+  pub length_partly : (i : ℕ) (rs : List AssertionRecord) → length (partly i rs) ≡ length rs
   length_partly zero rs = refl
   length_partly (suc i) [] = refl
   length_partly (suc i) (r ∷ rs) = ap suc (length_partly i rs)
 
-  partly_at : (i : ℕ) (rs : List AssertionRecord) (d : AssertionRecord) → i < length rs → get_or (partly i rs) i d ≡ get_or rs i d
+  pub partly_at : (i : ℕ) (rs : List AssertionRecord) (d : AssertionRecord) → i < length rs → get_or (partly i rs) i d ≡ get_or rs i d
   partly_at i [] d within = absurd (omega arith)
   partly_at zero (r ∷ rs) d within = refl
   partly_at (suc i) (r ∷ rs) d within = partly_at i rs d (omega arith)
@@ -77,7 +77,7 @@ margin_small s gs a fine few =
     between m n top low high = omega (arith, ints, abs_is (pos m -ℤ pos n))
 
 -- the records stay fine
-fine_retallied : (s : Slate) (gs : List BallotGroup) (rs : List AssertionRecord) → ballots gs ≤ most_ballots → all_fine s rs ≡ true → all_fine s (map (retallied s gs) rs) ≡ true
+pub fine_retallied : (s : Slate) (gs : List BallotGroup) (rs : List AssertionRecord) → ballots gs ≤ most_ballots → all_fine s rs ≡ true → all_fine s (map (retallied s gs) rs) ≡ true
 fine_retallied s gs [] few fine = refl
 fine_retallied s gs (r ∷ rs) few fine =
     let parts = and_parts (fine_record s r) (all_fine s rs) fine in

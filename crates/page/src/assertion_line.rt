@@ -37,7 +37,8 @@ fn write_numbers<S: Sink>(sink: &mut S, numbers: &[u32])
 fn write_members<S: Sink>(sink: &mut S, set: &CandidateSet)
     ensures { S.took sink.old (numbers_by 43 (members_of set.now)) sink.new }
 {
-    write_joined(sink, b'+', (1..=16).filter(|c| set.has(*c)));
+    // Half open, since a walk over `1..=16` takes longer.
+    write_joined(sink, b'+', (1..17).filter(|c| set.has(*c)));
 }
 
 // Puts an assertion as it is written.

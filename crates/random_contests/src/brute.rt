@@ -1,46 +1,65 @@
 // All orders of a contest, tried one after the other on its ballots, with nothing taken from the library's counter.
 use ballot::group::Group;
-use std::alloc::{AllocError, Global};
+use fixed_list::{FixedList, ListFull};
+
+// The most candidates of a contest here.
+pub const MOST_CANDIDATES: usize = 5;
 
 // As many orders as five candidates have: a bound by which the walk over them is seen to end.
 const MOST_ORDERS: u32 = 120;
 
-// An order as it is written backwards: the winner, then the one who went out last, and so on.
-#[derive(Clone, PartialEq, Eq, Drop)]
-pub struct Backwards(Vec<u32>);
+// An order as it is written backwards: the winner, then the one who went out last, and so on. In fixed memory, so that
+// trying all orders wants none. By a loop, since a list in fixed memory may be full, and `push` says so.
+#[derive(Clone, Copy)]
+pub struct Backwards(FixedList<u32, MOST_CANDIDATES>);
 
 impl Backwards {
     // The order whose members are given first out first.
-    pub fn of(mut order: Vec<u32>) -> Backwards {
-        order.reverse();
-        Backwards(order)
+    pub fn of(order: &[u32]) -> Result<Backwards, ListFull> {
+        let mut members = FixedList::new();
+        for member in order.iter().rev() {
+            members.push(*member)?;
+        }
+        Ok(Backwards(members))
     }
 
     // The first of all orders of so many candidates.
-    fn first(heap: Global, candidates: u32) -> Result<Backwards, AllocError> {
-        Ok(Backwards((1..=candidates).collect(heap)?))
+    fn first(candidates: u32) -> Result<Backwards, ListFull> {
+        let mut members = FixedList::new();
+        for candidate in 1..=candidates {
+            members.push(candidate)?;
+        }
+        Ok(Backwards(members))
     }
 
-    pub fn elects(&self, candidate: u32) -> bool {
-        self.0.first() == Some(&candidate)
+    pub fn members(&self) -> &[u32] {
+        self.0.as_slice()
     }
 
-    // Goes on to the next in ascending order, if there is one.
-    fn advance(&mut self) -> bool {
-        let Some(low) = self.0.windows(2).rposition(|pair| pair[0] < pair[1]) else {
-            return false;
+    // The next in ascending order, if there is one.
+    fn next(&self) -> Result<Option<Backwards>, ListFull> {
+        let members = self.members();
+        let Some(low) = members.windows(2).rposition(|pair| pair[0] < pair[1]) else {
+            return Ok(None);
         };
-        let Some(high) = self.0.iter().rposition(|member| *member > self.0[low]) else {
-            return false;
+        let Some(high) = members.iter().rposition(|member| *member > members[low]) else {
+            return Ok(None);
         };
-        self.0.swap(low, high);
-        self.0[low + 1..].reverse();
-        true
+        let mut next = FixedList::new();
+        for member in &members[..low] {
+            next.push(*member)?;
+        }
+        next.push(members[high])?;
+        for (place, member) in members.iter().enumerate().skip(low + 1).rev() {
+            next.push(if place == high { members[low] } else { *member })?;
+        }
+        Ok(Some(Backwards(next)))
     }
 
     // Whether nobody goes out who has more ballots than another who stands.
     fn is_count(&self, groups: &[Group]) -> bool {
-        (2..=self.0.len()).all(|standing| last_goes_out(groups, &self.0[..standing]))
+        let members = self.members();
+        (2..=members.len()).all(|standing| last_goes_out(groups, &members[..standing]))
     }
 }
 
@@ -74,21 +93,46 @@ fn last_goes_out(groups: &[Group], standing: &[u32]) -> bool {
         .all(|other| fewest <= pile(groups, standing, *other))
 }
 
-// The orders that are counts of the ballots, for a contest of at most five candidates, in ascending order.
-pub fn counts_of(
-    heap: Global,
-    groups: &[Group],
-    candidates: u32,
-) -> Result<Vec<Backwards>, AllocError> {
-    let mut counts = Vec::new(heap);
-    let mut order = Backwards::first(heap, candidates)?;
+// What all orders of a contest come to: how many of them are counts of the ballots, the first of these, in ascending
+// order, that elects another than a given order does, and whether the given order is one.
+#[derive(Clone, Copy)]
+pub struct Counts {
+    pub number: u32,
+    pub another: Option<Backwards>,
+    pub has_given: bool,
+}
+
+impl Counts {
+    // With one count more.
+    fn with(self, order: Backwards, given: &Backwards) -> Counts {
+        let elects_another = order.members().first() != given.members().first();
+        Counts {
+            number: self.number.saturating_add(1),
+            another: match self.another {
+                None if elects_another => Some(order),
+                another => another,
+            },
+            has_given: self.has_given || order.members() == given.members(),
+        }
+    }
+}
+
+// The counts among all orders of a contest of at most five candidates, with regard to the order `given`.
+pub fn counts_of(groups: &[Group], candidates: u32, given: &Backwards) -> Result<Counts, ListFull> {
+    let mut counts = Counts {
+        number: 0,
+        another: None,
+        has_given: false,
+    };
+    let mut order = Backwards::first(candidates)?;
     for _ in 0..MOST_ORDERS {
         if order.is_count(groups) {
-            counts.push(order.clone()?)?;
+            counts = counts.with(order, given);
         }
-        if !order.advance() {
+        let Some(next) = order.next()? else {
             break;
-        }
+        };
+        order = next;
     }
     Ok(counts)
 }

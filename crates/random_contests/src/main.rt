@@ -8,76 +8,93 @@ use anyhow::Context;
 use ballot::contest::Contest;
 use ballot::group::Group;
 use ballot::lent::LentGroups;
-use brute::{Backwards, counts_of};
+use brute::{Backwards, Counts, MOST_CANDIDATES, counts_of};
 use elimination::count::Count;
 use elimination::counting::count_ballots;
 use elimination::recount::recount;
+use fixed_list::{FixedList, ListFull};
 use random::Random;
 use search::answer::Answer;
-use std::alloc::{AllocError, Global};
+use std::alloc::Global;
 
 const SEED: u64 = 20181120;
 
-const CONTESTS: u32 = 400;
+const CONTESTS: usize = 400;
 
 const LIMIT: u64 = 100_000;
 
+const TOO_MANY: &str = "an order has more than five candidates";
+
 // Whether a contest's ballots have several counts, whether one of these elects another than the counter's winner, and
 // whether counter and recount agree with all orders.
-#[derive(Clone, Copy)]
+#[derive(Clone, Copy, Default)]
 struct Finding {
     tied: bool,
     disputed: bool,
     agrees: bool,
 }
 
-// The order of a count, written backwards.
-fn order_of(heap: Global, count: &Count) -> Result<Backwards, AllocError> {
-    let mut order: Vec<u32> = count.steps().iter().map(|step| step.out()).collect(heap)?;
+// The order of a count, written backwards. By a loop, since a list in fixed memory may be full, and `push` says so.
+fn order_of(count: &Count) -> Result<Backwards, ListFull> {
+    let mut order: FixedList<u32, MOST_CANDIDATES> = FixedList::new();
+    for step in count.steps() {
+        order.push(step.out())?;
+    }
     order.push(count.winner())?;
-    Ok(Backwards::of(order))
+    Backwards::of(order.as_slice())
+}
+
+// Whether the answer of the recount is what all orders show.
+fn is_answer(answer: Answer, counts: &Counts) -> Result<bool, ListFull> {
+    match (answer, counts.another) {
+        (Answer::NoSurvivor(_), None) => Ok(true),
+        (Answer::Found(order, _), Some(another)) => {
+            Ok(Backwards::of(order.as_slice())?.members() == another.members())
+        }
+        _ => Ok(false),
+    }
 }
 
 // Counter and recount against all orders, on the ballots of one contest.
-fn compare(heap: Global, groups: &[Group], contest: Contest) -> anyhow::Result<Finding> {
+fn compare(groups: &[Group], contest: Contest) -> anyhow::Result<Finding> {
     let mut source = LentGroups::open(contest, groups)
         .ok()
         .context("the groups were refused")?;
     let count = count_ballots(&mut source);
-    let winner = count.winner();
-    let counts = counts_of(heap, groups, contest.candidates())?;
-    let another = counts.iter().find(|order| !order.elects(winner));
-    let answer = recount(&mut source, winner, LIMIT)
+    let order = order_of(&count).ok().context(TOO_MANY)?;
+    let counts = counts_of(groups, contest.candidates(), &order)
+        .ok()
+        .context(TOO_MANY)?;
+    let answer = recount(&mut source, count.winner(), LIMIT)
         .ok()
         .context("the winner was refused")?;
-    let same_answer = match answer {
-        Answer::Stopped => false,
-        Answer::NoSurvivor(_) => another.is_none(),
-        Answer::Found(order, _) => {
-            another == Some(&Backwards::of(order.as_slice().to_vec(heap)?))
-        }
-    };
+    let same_answer = is_answer(answer, &counts).ok().context(TOO_MANY)?;
     Ok(Finding {
-        tied: counts.len() > 1,
-        disputed: another.is_some(),
-        agrees: same_answer && counts.contains(&order_of(heap, &count)?),
+        tied: counts.number > 1,
+        disputed: counts.another.is_some(),
+        agrees: same_answer && counts.has_given,
     })
 }
 
 // What each contest came to.
-fn try_contests(heap: Global) -> anyhow::Result<Vec<Finding>> {
+fn try_contests(heap: Global) -> anyhow::Result<FixedList<Finding, CONTESTS>> {
     let mut random = Random::new(SEED);
-    let mut findings = Vec::new(heap);
+    let mut findings = FixedList::new();
     for _ in 0..CONTESTS {
         let contest = random.contest();
         let groups = random.groups(heap, contest)?;
-        findings.push(compare(heap, groups.as_slice(), contest)?)?;
+        let finding = compare(groups.as_slice(), contest)?;
+        findings
+            .push(finding)
+            .ok()
+            .context("more contests than findings")?;
     }
     Ok(findings)
 }
 
 fn main(rt: HostRuntime) -> anyhow::Result<()> {
     let findings = try_contests(rt.alloc())?;
+    let findings = findings.as_slice();
     println!(rt;
         "{} contests of 2 to 5 candidates, {} with several counts, {} in which another could win; {} disagreed",
         findings.len(),

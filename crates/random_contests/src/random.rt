@@ -1,10 +1,12 @@
 // Contests and their ballots from a fixed seed.
 ghost use Rattle.std.specs.Prelude.{◌≤◌};
 
+use crate::brute::MOST_CANDIDATES;
 use anyhow::{Context, Result};
 use ballot::contest::Contest;
 use ballot::group::Group;
 use ballot::ranking::Ranking;
+use fixed_list::FixedList;
 use std::alloc::Global;
 
 // A linear congruential generator, of which the high bits are used.
@@ -39,12 +41,15 @@ impl Random {
     }
 
     // A ranking of some of the contest's candidates, perhaps of none.
-    fn ranking(&mut self, heap: Global, contest: Contest) -> Result<Ranking> {
-        let mut ranked = Vec::new(heap);
+    fn ranking(&mut self, contest: Contest) -> Result<Ranking> {
+        let mut ranked: FixedList<u32, MOST_CANDIDATES> = FixedList::new();
         for _ in 0..self.between(0, contest.candidates()) {
             let candidate = self.between(1, contest.candidates());
-            if !ranked.contains(&candidate) {
-                ranked.push(candidate)?;
+            if !ranked.as_slice().contains(&candidate) {
+                ranked
+                    .push(candidate)
+                    .ok()
+                    .context("a ranking has more than five candidates")?;
             }
         }
         Ranking::new(contest, ranked.as_slice())
@@ -52,8 +57,8 @@ impl Random {
             .context("a ranking was refused")
     }
 
-    fn group(&mut self, heap: Global, contest: Contest) -> Result<Group> {
-        let ranking = self.ranking(heap, contest)?;
+    fn group(&mut self, contest: Contest) -> Result<Group> {
+        let ranking = self.ranking(contest)?;
         Ok(Group::new(ranking, self.between(1, 4)).unwrap())
     }
 
@@ -61,7 +66,7 @@ impl Random {
     pub fn groups(&mut self, heap: Global, contest: Contest) -> Result<Vec<Group>> {
         let mut groups = Vec::new(heap);
         for _ in 0..self.between(0, 6) {
-            groups.push(self.group(heap, contest)?)?;
+            groups.push(self.group(contest)?)?;
         }
         Ok(groups)
     }

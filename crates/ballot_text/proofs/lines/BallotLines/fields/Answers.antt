@@ -36,7 +36,7 @@ pub returns-then-passed-line : goal.returns-then-passed-line
 returns-then-passed-line g c =
     let s = c.args.self.now in
     let k = (goal.at.returns-then-passed-line g c).After-unwrap-read in
-    fields_found g.F.LineForm.form (slate s.contest.candidates) (text_bytes s.text.now) c.loop-at.passed c.loop-at.at c.loop-at.invariant.0 (inside g k) c.unwrap-read.result (reads g k) c.args.line c.if-passed-line.true
+    fields_found g.F.LineForm.form (slate s.contest.candidates) (text_bytes s.text.now) c.loop-at.passed c.loop-at.at c.loop-at.invariant.0 (inside g k) c.unwrap-read.result (reads g k) c.args.line (omega arith)
 
 pub overflow_add-at : goal.overflow_add-at
 overflow_add-at g c = omega (arith, within g (goal.at.overflow_add-at g c).After-unwrap-read, c.args.self.now.text.now.short)

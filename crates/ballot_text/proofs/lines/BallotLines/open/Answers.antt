@@ -1,4 +1,4 @@
-use Rattle.std.proofs.Common.{refl, ap, subst}
+use Rattle.std.proofs.Common.{rules, refl, ap, subst}
 use Rattle.ballot.specs.Values.{contest_slate}
 use Rattle.forms.specs.Texts.{Holds}
 use Rattle.ballot_text.specs.Openings.{ReadsAll}
@@ -11,7 +11,7 @@ returns g c =
     let f = g.F.LineForm.form in
     let s = contest_slate c.in_ok-contest.contest in
     let bs = text_bytes c.args.text.now in
-    let all : ReadsAll f s bs c.in_ok-ballots.ballots = subst (λ h. ReadsAll h s bs c.in_ok-ballots.ballots) c.form.ensures c.in_ok-ballots.ensures in
+    let all : ReadsAll f s bs c.in_ok-ballots.ballots = subst (λ h. ReadsAll h s bs c.in_ok-ballots.ballots) (search rules) c.in_ok-ballots.ensures in
     record {
       proper = c.in_ok-contest.ensures.0;
       contest_is = ap (λ s. s.candidates) c.in_ok-contest.ensures.1;

@@ -1,7 +1,7 @@
 -- Each turn takes the candidate's part off what is left of the walk.
 use Rattle.std.proofs.Common.{◌<◌, length, Ok, sym, ap, ◌∙◌, subst, refl, arith}
 use Rattle.irv.specs.Sets.{set_of}
-use Rattle.irv.specs.Walks.{stopped}
+use Rattle.irv.specs.Walks.{may_join, stopped}
 use Rattle.search.specs.EndingValues.{listing}
 use Rattle.search.specs.Searches.{run_with, SameSearch}
 use Rattle.search.proofs.Turning.{Asked, turn, asked, onward_first, onward_skipped, onward_blocked, onward_open, leads_over, leads_full, leads_stopped, leads_survived, run_stops, same_search_more}
@@ -13,7 +13,8 @@ pub loop-candidate-init : goal.loop-candidate-init
 loop-candidate-init g t c = onward_first g.R.Rule.contest g.R.Rule.ruling g.R.Rule.kept c.args.self.now (listing c.args.ending) g.R.Rule.chains c.requires
 
 pub loop-candidate-preserved-then-not-may_grow_by : goal.loop-candidate-preserved-then-not-may_grow_by
-loop-candidate-preserved-then-not-may_grow_by g t c = onward_skipped c.loop-candidate.invariant c.candidates-last.ensures c.loop-candidate-test.true c.may_grow_by.ensures c.if-not-may_grow_by.true
+loop-candidate-preserved-then-not-may_grow_by g t c =
+    onward_skipped c.loop-candidate.invariant c.candidates-last.ensures c.loop-candidate-test.true (c.may_grow_by.ensures ∙ ap (may_join c.loop-candidate.self.winner (listing c.args.ending)) (omega arith)) c.if-not-may_grow_by.true
 
 pub returns-in_err-count_one-clause-leads : goal.returns-in_err-count_one-clause-leads
 returns-in_err-count_one-clause-leads g t c =
